@@ -39,11 +39,22 @@ pub enum Fault {
     /// An argument or a received name is not of the required type (place: the node).
     WrongType(usize),
     /// The effect names a name that is bound there (place: the node).
-    Escapes { node: usize, label: Label<u8>, amount: u32 },
+    Escapes {
+        node: usize,
+        label: Label<u8>,
+        amount: u32,
+    },
     /// At a copy, an amount joined with itself differs (place: the node).
-    NotCopyable { node: usize, label: Label<u8>, amount: u32 },
+    NotCopyable {
+        node: usize,
+        label: Label<u8>,
+        amount: u32,
+    },
     /// The root's effect is not empty (place: 0).
-    RootOwes { label: Label<u8>, amount: u32 },
+    RootOwes {
+        label: Label<u8>,
+        amount: u32,
+    },
     /// There is no thread, or it is at another kind of node (place: the thread).
     NoSuchThread(usize),
     /// Values or counts differ (place: the thread).

@@ -1,5 +1,17 @@
 //! Sheets as files: records, tables, and opening.
+pub mod census;
 pub mod record;
+pub mod table;
+pub mod tables;
+pub mod tuple;
 
 pub use record::Quad;
 pub use record::Record;
+pub use table::Table;
+pub use tables::ChannelType;
+pub use tables::Entry;
+pub use tables::Item;
+pub use tables::Node;
+pub use tables::SheetType;
+pub use tables::Tables;
+pub use tuple::Tuple;

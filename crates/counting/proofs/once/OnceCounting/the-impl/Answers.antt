@@ -15,5 +15,5 @@ lawful-law c = record {
   full-entry = omega arith;
   entry-ceiling = omega arith;
   ceiling-fits = omega arith;
-  bounded = λ amounts few small. once-bound amounts small
+  bounded = λ amounts few small. once-bound amounts small;
 }

@@ -14,5 +14,5 @@ lawful-law c = record {
   full-entry = omega arith;
   entry-ceiling = omega arith;
   ceiling-fits = omega arith;
-  bounded = λ amounts few small. omega (arith, parts-bound (c .full) amounts small)
+  bounded = λ amounts few small. omega (arith, parts-bound (c .full) amounts small);
 }

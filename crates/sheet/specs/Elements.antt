@@ -1,0 +1,15 @@
+-- What a table of bounded length holds.
+use mathlib.Core.List.{List, [], _∷_}
+use Prim.Native.Nat.{ℕ}
+use lib.ListN.{take}
+use Rattle.sheet.specs.declared.table.Table.{Table}
+
+-- the things in the places that are used
+abbrev pub elements : {T : Type 0} {N : ℕ} → Table T N → List T
+elements t = take (t .count) (t .items)
+
+-- the list with another last element
+abbrev pub with-last : {T : Type 0} → List T → T → List T
+with-last [] y = []
+with-last (x ∷ []) y = y ∷ []
+with-last (x ∷ x′ ∷ xs) y = x ∷ with-last (x′ ∷ xs) y
