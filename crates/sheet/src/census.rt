@@ -1,5 +1,5 @@
 //! The order of records: what a record is to it, and what stands before.
-ghost use mathlib.Core.Path.{_≡_};
+use crate::record::Record;
 
 /// What a record is to the order of records.
 #[derive(Clone, Copy)]
@@ -21,4 +21,12 @@ pub struct Census {
     pub names: usize,
     pub nodes: usize,
     pub room: usize,
+}
+
+/// What a scan has seen: how many records, the first that stands wrongly, and what stands before the next one.
+#[derive(Clone, Copy)]
+pub struct Scan {
+    pub place: usize,
+    pub wrong: Option<usize>,
+    pub census: Census,
 }
