@@ -1,5 +1,6 @@
 //! Sheets as files: records, tables, and opening.
 pub mod census;
+mod decode;
 pub mod record;
 mod scan;
 pub mod table;
