@@ -1,6 +1,7 @@
 //! Sheets as files: records, tables, and opening.
 pub mod census;
 mod decode;
+mod range;
 pub mod record;
 mod scan;
 pub mod table;
