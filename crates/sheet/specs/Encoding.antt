@@ -3,10 +3,10 @@ use mathlib.Core.List.{List, [], _∷_, _++_, map}
 use Prim.Native.Nat.{ℕ, _+_, _-_, _*_}
 use lib.ListN.{length, getD}
 use Rattle.std.specs.Joined.{joined}
-use Rattle.calculus.specs.Countings.{Operations}
 use Rattle.fault.specs.Items.{list}
 use Rattle.fault.specs.declared.label.Label.{Label}
 use Rattle.sheet.specs.Elements.{elements}
+use Rattle.sheet.specs.declared.basis.Basis.{Basis}
 use Rattle.sheet.specs.declared.record.Quad.{Quad}
 use Rattle.sheet.specs.declared.record.Record.{Record}
 use Rattle.sheet.specs.declared.record.Record.the-variants as raw
@@ -60,5 +60,5 @@ abbrev pub body : Tables → List Record
 body t = joined type-records (elements (t .types)) ++ (map raw.Name (elements (t .names)) ++ map node-record (elements (t .nodes)))
 
 -- the records of a sheet: the head has edition 1, the counting's code and its full right
-abbrev pub records : (code full : ℕ) → Tables → List Record
-records code full t = raw.Head 1 code full ∷ body t
+abbrev pub records : Basis → Tables → List Record
+records b t = raw.Head 1 (b .code) (b .full) ∷ body t

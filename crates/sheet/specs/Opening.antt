@@ -8,21 +8,19 @@ use Rattle.std.specs.Joined.{joined}
 use Rattle.std.specs.declared.option.Option.the-variants.{Some, None}
 use Rattle.std.specs.declared.result.Result.{Result}
 use Rattle.std.specs.declared.result.Result.the-variants.{Ok, Err}
-use Rattle.calculus.specs.Countings.{Operations}
 use Rattle.fault.specs.First.{First}
 use Rattle.fault.specs.declared.fault.Fault.{Fault}
 use Rattle.fault.specs.declared.fault.Fault.the-variants.{Unreadable, WrongOrder, OutOfRange, NotATree, OutOfScope, BadType}
 use Rattle.sheet.specs.Elements.{elements}
 use Rattle.sheet.specs.Records as bytes
 use Rattle.sheet.specs.Encoding as encoding
-use Rattle.sheet.specs.Range.{Totals, totals, ranged, Fits}
+use Rattle.sheet.specs.Filling.{FitsAt, Spells}
 use Rattle.sheet.specs.Order.{census, misplaced-at}
 use Rattle.sheet.specs.Tree.{misgrown}
 use Rattle.sheet.specs.Scope.{Misnamed}
 use Rattle.sheet.specs.Types.{Misformed}
-use Rattle.sheet.specs.declared.census.Census.{Census}
+use Rattle.sheet.specs.declared.basis.Basis.{Basis}
 use Rattle.sheet.specs.declared.record.Record.{Record}
-use Rattle.sheet.specs.declared.record.Record.the-variants.{Stop}
 use Rattle.sheet.specs.declared.tables.Tables.{Tables}
 
 -- bytes taken apart: the records in front, one after another, as far as there are any; and a sheet
@@ -33,11 +31,6 @@ pub record Reading (given : List ℕ) : Type 0 where
   pub stuck : bytes.Unreadable left
   pub sheet : Tables
 
--- the sheet is the one that the records mean: these are its records, and all its fields are in range
-pub record Spells (K : Operations) (code : ℕ) (records : List Record) (t : Tables) : Type 0 where
-  pub in-order : encoding.records code (K .full) t ≡ records
-  pub in-range : ranged (K .largest) (totals t) t ≡ true
-
 -- the record number of a type, and of a node
 abbrev pub type-place : Tables → ℕ → ℕ
 type-place t i = suc (length (joined encoding.type-records (take i (elements (t .types)))))
@@ -45,33 +38,30 @@ type-place t i = suc (length (joined encoding.type-records (take i (elements (t 
 abbrev pub node-place : Tables → ℕ → ℕ
 node-place t n = suc (length (joined encoding.type-records (elements (t .types))) + length (elements (t .names)) + n)
 
-abbrev pub totals-of : Census → Totals
-totals-of c = record { types = c .types; names = c .names; nodes = c .nodes }
-
 -- the faults of a reading, a rule for each; 4 to 6 are about a sheet that the records mean
-pub data Faulty (K : Operations) (code : ℕ) {given : List ℕ} (R : Reading given) : Fault → Type 0 where
+pub data Faulty (b : Basis) {given : List ℕ} (R : Reading given) : Fault → Type 0 where
   -- 1: what is left after the last record is no record
-  unreadable : 0 < length (R .left) → Faulty K code R (Unreadable (length (R .records)))
+  unreadable : 0 < length (R .left) → Faulty b R (Unreadable (length (R .records)))
   -- 2: a record stands wrongly or is one too many; or there is no node
-  wrong-order : (p : ℕ) → p < length (R .records) → misplaced-at (R .records) p ≡ true → Faulty K code R (WrongOrder p)
-  no-node : census (R .records) .nodes ≡ 0 → Faulty K code R (WrongOrder (length (R .records)))
+  wrong-order : (p : ℕ) → p < length (R .records) → misplaced-at (R .records) p ≡ true → Faulty b R (WrongOrder p)
+  no-node : census (R .records) .nodes ≡ 0 → Faulty b R (WrongOrder (length (R .records)))
   -- 3: a record is out of range
   out-of-range : (p : ℕ) → p < length (R .records)
-      → (Fits K code (totals-of (census (R .records))) (census (take p (R .records)) .types) (getD (R .records) p Stop) → ⊥) → Faulty K code R (OutOfRange p)
+      → (FitsAt b (R .records) p → ⊥) → Faulty b R (OutOfRange p)
   -- 4: a node has a child not above it, or is not a child just once
-  not-a-tree : (n : ℕ) → Spells K code (R .records) (R .sheet) → n < length (elements (R .sheet .nodes))
-      → misgrown (elements (R .sheet .nodes)) n ≡ true → Faulty K code R (NotATree (node-place (R .sheet) n))
+  not-a-tree : (n : ℕ) → Spells b (R .records) (R .sheet) → n < length (elements (R .sheet .nodes))
+      → misgrown (elements (R .sheet .nodes)) n ≡ true → Faulty b R (NotATree (node-place (R .sheet) n))
   -- 5: a node binds a name already bound, or uses one out of scope
-  out-of-scope : (n : ℕ) → Spells K code (R .records) (R .sheet) → n < length (elements (R .sheet .nodes))
-      → Misnamed (elements (R .sheet .nodes)) n → Faulty K code R (OutOfScope (node-place (R .sheet) n))
+  out-of-scope : (n : ℕ) → Spells b (R .records) (R .sheet) → n < length (elements (R .sheet .nodes))
+      → Misnamed (elements (R .sheet .nodes)) n → Faulty b R (OutOfScope (node-place (R .sheet) n))
   -- 6: a type has a label twice, or nesting over 4
-  bad-type : (i : ℕ) → Spells K code (R .records) (R .sheet) → i < length (elements (R .sheet .types))
-      → Misformed (elements (R .sheet .types)) i → Faulty K code R (BadType (type-place (R .sheet) i))
+  bad-type : (i : ℕ) → Spells b (R .records) (R .sheet) → i < length (elements (R .sheet .types))
+      → Misformed (elements (R .sheet .types)) i → Faulty b R (BadType (type-place (R .sheet) i))
 
 -- opening: with no fault the place holds the sheet that the bytes mean; else the answer is the first fault, and the
 -- place is as it was
-abbrev pub Opens : Operations → ℕ → List ℕ → (before after : Tables) → Result (Unit {0}) Fault → Type 0
-Opens K code given before after (Ok u) =
-    (R : Reading given) × First (Faulty K code R) None × Spells K code (R .records) (R .sheet) × (after ≡ R .sheet)
-Opens K code given before after (Err f) =
-    (R : Reading given) × First (Faulty K code R) (Some f) × (after ≡ before)
+abbrev pub Opens : Basis → List ℕ → (before after : Tables) → Result (Unit {0}) Fault → Type 0
+Opens b given before after (Ok u) =
+    (R : Reading given) × First (Faulty b R) None × Spells b (R .records) after × (after ≡ R .sheet) × (joined bytes.codes (encoding.records b after) ≡ given)
+Opens b given before after (Err f) =
+    (R : Reading given) × First (Faulty b R) (Some f) × (after ≡ before)

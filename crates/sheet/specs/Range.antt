@@ -5,12 +5,12 @@ use mathlib.Core.List.{List, [], _∷_}
 use Prim.Native.Nat.{ℕ, suc, _<_}
 use lib.Dec.{leb, ltb}
 use lib.ListN.{length}
-use Rattle.calculus.specs.Countings.{Operations}
 use Rattle.fault.specs.Items.{list}
 use Rattle.sheet.specs.Elements.{elements}
 use Rattle.sheet.specs.Encoding.{parts, spread, entry-record, node-record}
 use Rattle.sheet.specs.declared.record.Record.{Record}
 use Rattle.sheet.specs.declared.record.Record.the-variants as raw
+use Rattle.sheet.specs.declared.basis.Basis.{Basis}
 use Rattle.sheet.specs.declared.tuple.Tuple.{Tuple}
 use Rattle.sheet.specs.declared.tables.Item.{Item}
 use Rattle.sheet.specs.declared.tables.Item.the-variants.{Name, Index}
@@ -77,12 +77,12 @@ ranged largest n t =
     && (below (n .types) (elements (t .names)) && all (node-fits (n .names) (n .nodes)) (elements (t .nodes)))
 
 -- a record is in range; own is how many types stand before it
-pub data Fits (K : Operations) (code : ℕ) (n : Totals) (own : ℕ) (r : Record) : Type 0 where
+pub data Fits (b : Basis) (n : Totals) (own : ℕ) (r : Record) : Type 0 where
   -- edition 1, the counting's code and its full right
-  fits-head : r ≡ raw.Head 1 code (K .full) → Fits K code n own r
-  fits-pure : r ≡ raw.Pure → Fits K code n own r
-  fits-public : r ≡ raw.Public → Fits K code n own r
-  fits-channel : (xs : Tuple ℕ) → below own (parts xs) ≡ true → r ≡ raw.Channel (length (parts xs)) (spread (parts xs)) → Fits K code n own r
-  fits-entry : (e : Entry) → entry-fits (K .largest) (n .names) e ≡ true → r ≡ entry-record e → Fits K code n own r
-  fits-name : (x : ℕ) → x < n .types → r ≡ raw.Name x → Fits K code n own r
-  fits-node : (x : Node) → node-fits (n .names) (n .nodes) x ≡ true → r ≡ node-record x → Fits K code n own r
+  fits-head : r ≡ raw.Head 1 (b .code) (b .full) → Fits b n own r
+  fits-pure : r ≡ raw.Pure → Fits b n own r
+  fits-public : r ≡ raw.Public → Fits b n own r
+  fits-channel : (xs : Tuple ℕ) → below own (parts xs) ≡ true → r ≡ raw.Channel (length (parts xs)) (spread (parts xs)) → Fits b n own r
+  fits-entry : (e : Entry) → entry-fits (b .largest) (n .names) e ≡ true → r ≡ entry-record e → Fits b n own r
+  fits-name : (x : ℕ) → x < n .types → r ≡ raw.Name x → Fits b n own r
+  fits-node : (x : Node) → node-fits (n .names) (n .nodes) x ≡ true → r ≡ node-record x → Fits b n own r

@@ -1,6 +1,12 @@
 //! Records read back into the forms of the tables.
 ghost use mathlib.Core.Path.{_≡_};
+ghost use lib.ListN.{length};
+ghost use mathlib.Core.List.{map};
+ghost use Rattle.std.specs.Slices.{found};
+ghost use Rattle.fault.specs.Items.{list};
 ghost use Rattle.sheet.specs.Decoding as decoding;
+ghost use Rattle.sheet.specs.Encoding.{parts, spread, item-byte, entry-record, node-record};
+ghost use Rattle.sheet.specs.declared.record.Record.the-variants.{Entry as entry};
 use crate::record::Quad;
 use crate::record::Record;
 use crate::tables::Entry;
@@ -12,7 +18,8 @@ use fault::Label;
 
 /// The bytes that are used, at least one; none where a byte stands after one that is not used.
 fn used(bytes: Quad) -> Option<Items<u8>>
-    ensures { λ r. ⌜ r ≡ decoding.used bytes ⌝ }
+    ensures value { λ r. ⌜ r ≡ decoding.used bytes ⌝ }
+    ensures back { λ r. ⌜ found r (λ xs. spread (list xs) ≡ bytes) ⌝ }
 {
     match bytes {
         Quad(255, _, _, _) => None,
@@ -27,7 +34,8 @@ fn used(bytes: Quad) -> Option<Items<u8>>
 
 /// So many bytes that are used, and no others.
 pub fn tuple_of(count: u8, bytes: Quad) -> Option<Tuple<u8>>
-    ensures { λ r. ⌜ r ≡ decoding.tuple-of count bytes ⌝ }
+    ensures value { λ r. ⌜ r ≡ decoding.tuple-of count bytes ⌝ }
+    ensures back { λ r. ⌜ found r (λ xs. (length (parts xs) ≡ count) × (spread (parts xs) ≡ bytes)) ⌝ }
 {
     if count == 0 {
         return match bytes {
@@ -41,7 +49,8 @@ pub fn tuple_of(count: u8, bytes: Quad) -> Option<Tuple<u8>>
 
 /// The label of names that is written so.
 pub fn label_of(bytes: Quad) -> Option<Label<u8>>
-    ensures { λ r. ⌜ r ≡ decoding.label-of bytes ⌝ }
+    ensures value { λ r. ⌜ r ≡ decoding.label-of bytes ⌝ }
+    ensures back { λ r. ⌜ found r (λ l. spread (list (l .items)) ≡ bytes) ⌝ }
 {
     let items = used(bytes)?;
     Some(Label { items })
@@ -49,7 +58,8 @@ pub fn label_of(bytes: Quad) -> Option<Label<u8>>
 
 /// The item that a byte stands for: a name below 64, an index below 80.
 fn item_of(byte: u8) -> Option<Item>
-    ensures { λ r. ⌜ r ≡ decoding.item-of byte ⌝ }
+    ensures value { λ r. ⌜ r ≡ decoding.item-of byte ⌝ }
+    ensures back { λ r. ⌜ found r (λ i. item-byte i ≡ byte) ⌝ }
 {
     match byte {
         0..=63 => Some(Item::Name(byte)),
@@ -60,7 +70,8 @@ fn item_of(byte: u8) -> Option<Item>
 
 /// The items that bytes stand for.
 fn items_of(bytes: Items<u8>) -> Option<Items<Item>>
-    ensures { λ r. ⌜ r ≡ decoding.items-of bytes ⌝ }
+    ensures value { λ r. ⌜ r ≡ decoding.items-of bytes ⌝ }
+    ensures back { λ r. ⌜ found r (λ xs. map item-byte (list xs) ≡ list bytes) ⌝ }
 {
     match bytes {
         Items::One(a) => Some(Items::One(item_of(a)?)),
@@ -72,7 +83,8 @@ fn items_of(bytes: Items<u8>) -> Option<Items<Item>>
 
 /// The entry that is written so.
 pub fn entry_of(amount: u32, bytes: Quad) -> Option<Entry>
-    ensures { λ r. ⌜ r ≡ decoding.entry-of amount bytes ⌝ }
+    ensures value { λ r. ⌜ r ≡ decoding.entry-of amount bytes ⌝ }
+    ensures back { λ r. ⌜ found r (λ e. entry-record e ≡ entry amount bytes) ⌝ }
 {
     let items = items_of(used(bytes)?)?;
     Some(Entry { label: Label { items }, amount })
@@ -80,7 +92,8 @@ pub fn entry_of(amount: u32, bytes: Quad) -> Option<Entry>
 
 /// The node that a record means.
 pub fn node_of(given: Record) -> Option<Node>
-    ensures { λ r. ⌜ r ≡ decoding.node-of given ⌝ }
+    ensures value { λ r. ⌜ r ≡ decoding.node-of given ⌝ }
+    ensures back { λ r. ⌜ found r (λ x. node-record x ≡ given) ⌝ }
 {
     match given {
         Record::Stop => Some(Node::Stop),

@@ -1,7 +1,9 @@
 //! Sheets as files: records, tables, and opening.
+pub mod basis;
 pub mod census;
 mod decode;
 mod range;
+mod fill;
 pub mod record;
 mod scan;
 pub mod table;

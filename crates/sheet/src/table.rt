@@ -4,7 +4,7 @@ ghost use mathlib.Core.List.{_++_, _∷_, []};
 ghost use Prim.Native.Nat.{_≤_, _<_};
 ghost use lib.ListN.{length};
 ghost use Rattle.std.specs.Orderings.{When};
-ghost use Rattle.sheet.specs.Elements.{elements, with-last};
+ghost use Rattle.sheet.specs.Elements.{elements, last-of, with-last};
 
 /// At most N things in order: the first `count` of the places.
 #[derive(Clone, Copy)]
@@ -40,6 +40,13 @@ impl<T: Copy, const N: usize> Table<T, N> {
     {
         let all = &self.items[..];
         self.count.min(all.len())
+    }
+
+    /// The last thing, or none.
+    pub fn last(&self) -> Option<T>
+        ensures { λ r. ⌜ r ≡ last-of (elements (now (self .entry))) ⌝ }
+    {
+        self.as_slice().last().copied()
     }
 
     /// One thing more at the end; false, and nothing changed, exactly where all places are used.
