@@ -63,30 +63,30 @@ lowest-none rs r h e q l t =
     ⊎-elim
     (λ m. h q m (sym (misplaced-left rs r q m) ∙ t))
     (λ m.
-      let same : q ≡ length rs = omega (arith, length-push rs r) in
-      both-ways (misplaced-at (rs ++ r ∷ []) (length rs)) (misplaced-last rs r ∙ e) (ap (misplaced-at (rs ++ r ∷ [])) (sym same) ∙ t))
+    let same : q ≡ length rs = omega (arith, length-push rs r) in
+    both-ways (misplaced-at (rs ++ r ∷ []) (length rs)) (misplaced-last rs r ∙ e) (ap (misplaced-at (rs ++ r ∷ [])) (sym same) ∙ t))
     (cases-lt q (length rs))
 
 pub seen-stays : (rs : List Record) (r : Record) (s : Scan) (p : ℕ) → Seen rs s → s .wrong ≡ Some p → Seen (rs ++ r ∷ []) (record { place = s .place + 1; wrong = s .wrong; census = s .census })
 seen-stays rs r s p h e = record {
   count = ap (λ n. n + 1) (h .count) ∙ sym (length-push rs r);
   lowest = subst (λ w. Lowest (λ q. misplaced-at (rs ++ r ∷ []) q ≡ true) (length (rs ++ r ∷ [])) w) (sym e) (lowest-stays rs r p (subst (λ w. Lowest (λ q. misplaced-at rs q ≡ true) (length rs) w) e (h .lowest)));
-  before = λ n. let z : _≡_ {A = ℕ} 0 1 = cc in absurd (omega arith)
+  before = λ n. let z : _≡_ {A = ℕ} 0 1 = cc in absurd (omega arith);
 }
 
 pub seen-found : (rs : List Record) (r : Record) (s : Scan) → Seen rs s → s .wrong ≡ None → misplaced (s .census) (class-of r) ≡ true → Seen (rs ++ r ∷ []) (record { place = s .place + 1; wrong = Some (s .place); census = s .census })
 seen-found rs r s h e m = record {
   count = ap (λ n. n + 1) (h .count) ∙ sym (length-push rs r);
   lowest = subst (λ w. Lowest (λ q. misplaced-at (rs ++ r ∷ []) q ≡ true) (length (rs ++ r ∷ [])) (Some w)) (sym (h .count))
-    (lowest-found rs r (subst (λ w. Lowest (λ q. misplaced-at rs q ≡ true) (length rs) w) e (h .lowest)) (ap (λ c. misplaced c (class-of r)) (sym (h .before e)) ∙ m));
-  before = λ n. let z : _≡_ {A = ℕ} 0 1 = cc in absurd (omega arith)
+      (lowest-found rs r (subst (λ w. Lowest (λ q. misplaced-at rs q ≡ true) (length rs) w) e (h .lowest)) (ap (λ c. misplaced c (class-of r)) (sym (h .before e)) ∙ m));
+  before = λ n. let z : _≡_ {A = ℕ} 0 1 = cc in absurd (omega arith);
 }
 
 pub seen-more : (rs : List Record) (r : Record) (s : Scan) → Seen rs s → s .wrong ≡ None → misplaced (s .census) (class-of r) ≡ false → Seen (rs ++ r ∷ []) (record { place = s .place + 1; wrong = None; census = after (s .census) (class-of r) })
 seen-more rs r s h e m = record {
   count = ap (λ n. n + 1) (h .count) ∙ sym (length-push rs r);
   lowest = lowest-none rs r (subst (λ w. Lowest (λ q. misplaced-at rs q ≡ true) (length rs) w) e (h .lowest)) (ap (λ c. misplaced c (class-of r)) (sym (h .before e)) ∙ m);
-  before = λ n. ap (λ c. after c (class-of r)) (h .before e) ∙ sym (census-push rs r)
+  before = λ n. ap (λ c. after c (class-of r)) (h .before e) ∙ sym (census-push rs r);
 }
 
 pub seen-none : Seen [] (record { place = 0; wrong = None; census = nothing })

@@ -58,13 +58,13 @@ Room t class.Node = length (elements (t .nodes)) < 1024
 -- the tables t′ are the tables t with what record r means, which is in range
 pub data Grown (b : Basis) (n : Totals) (t t′ : Tables) (r : Record) : Type 0 where
   grown-type : (x : SheetType) → type-records x ≡ r ∷ [] → type-fits (b .largest) (n .names) (length (elements (t .types))) x ≡ true
-    → elements (t′ .types) ≡ elements (t .types) ++ x ∷ [] → t′ .names ≡ t .names → t′ .nodes ≡ t .nodes → Grown b n t t′ r
+      → elements (t′ .types) ≡ elements (t .types) ++ x ∷ [] → t′ .names ≡ t .names → t′ .nodes ≡ t .nodes → Grown b n t t′ r
   grown-entry : (before : List SheetType) (c c′ : ChannelType) (e : Entry) → entry-record e ≡ r → entry-fits (b .largest) (n .names) e ≡ true
-    → LastChannel t before c → LastChannel t′ before c′ → c′ .components ≡ c .components → elements (c′ .entries) ≡ elements (c .entries) ++ e ∷ []
-    → t′ .names ≡ t .names → t′ .nodes ≡ t .nodes → Grown b n t t′ r
+      → LastChannel t before c → LastChannel t′ before c′ → c′ .components ≡ c .components → elements (c′ .entries) ≡ elements (c .entries) ++ e ∷ []
+      → t′ .names ≡ t .names → t′ .nodes ≡ t .nodes → Grown b n t t′ r
   grown-name : (x : ℕ) → raw.Name x ≡ r → x < n .types → elements (t′ .names) ≡ elements (t .names) ++ x ∷ [] → t′ .types ≡ t .types → t′ .nodes ≡ t .nodes → Grown b n t t′ r
   grown-node : (x : Node) → node-record x ≡ r → node-fits (n .names) (n .nodes) x ≡ true → elements (t′ .nodes) ≡ elements (t .nodes) ++ x ∷ []
-    → t′ .types ≡ t .types → t′ .names ≡ t .names → Grown b n t t′ r
+      → t′ .types ≡ t .types → t′ .names ≡ t .names → Grown b n t t′ r
 
 -- record number p is in range
 abbrev pub FitsAt : Basis → List Record → ℕ → Type 0

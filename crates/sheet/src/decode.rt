@@ -44,7 +44,11 @@ pub fn tuple_of(count: u8, bytes: Quad) -> Option<Tuple<u8>>
         };
     }
     let items = used(bytes)?;
-    if items.count() == count as usize { Some(Tuple::Of(items)) } else { None }
+    if items.count() == count as usize {
+        Some(Tuple::Of(items))
+    } else {
+        None
+    }
 }
 
 /// The label of names that is written so.
@@ -63,7 +67,10 @@ fn item_of(byte: u8) -> Option<Item>
 {
     match byte {
         0..=63 => Some(Item::Name(byte)),
-        64..=79 => Some(Item::Index { arrows: (byte - 64) / 4, position: (byte - 64) % 4 + 1 }),
+        64..=79 => Some(Item::Index {
+            arrows: (byte - 64) / 4,
+            position: (byte - 64) % 4 + 1,
+        }),
         _ => None,
     }
 }
@@ -77,7 +84,12 @@ fn items_of(bytes: Items<u8>) -> Option<Items<Item>>
         Items::One(a) => Some(Items::One(item_of(a)?)),
         Items::Two(a, b) => Some(Items::Two(item_of(a)?, item_of(b)?)),
         Items::Three(a, b, c) => Some(Items::Three(item_of(a)?, item_of(b)?, item_of(c)?)),
-        Items::Four(a, b, c, d) => Some(Items::Four(item_of(a)?, item_of(b)?, item_of(c)?, item_of(d)?)),
+        Items::Four(a, b, c, d) => Some(Items::Four(
+            item_of(a)?,
+            item_of(b)?,
+            item_of(c)?,
+            item_of(d)?,
+        )),
     }
 }
 
@@ -87,7 +99,10 @@ pub fn entry_of(amount: u32, bytes: Quad) -> Option<Entry>
     ensures back { λ r. ⌜ found r (λ e. entry-record e ≡ entry amount bytes) ⌝ }
 {
     let items = items_of(used(bytes)?)?;
-    Some(Entry { label: Label { items }, amount })
+    Some(Entry {
+        label: Label { items },
+        amount,
+    })
 }
 
 /// The node that a record means.
@@ -97,16 +112,48 @@ pub fn node_of(given: Record) -> Option<Node>
 {
     match given {
         Record::Stop => Some(Node::Stop),
-        Record::Send { channel, count, names } => Some(Node::Send { channel, names: tuple_of(count, names)? }),
-        Record::Receive { channel, count, names, next } => {
-            Some(Node::Receive { channel, names: tuple_of(count, names)?, next })
+        Record::Send {
+            channel,
+            count,
+            names,
+        } => Some(Node::Send {
+            channel,
+            names: tuple_of(count, names)?,
+        }),
+        Record::Receive {
+            channel,
+            count,
+            names,
+            next,
+        } => {
+            Some(Node::Receive {
+                channel,
+                names: tuple_of(count, names)?,
+                next,
+            })
         }
         Record::Both { first, second } => Some(Node::Both { first, second }),
         Record::Copy { next } => Some(Node::Copy { next }),
         Record::New { name, next } => Some(Node::New { name, next }),
-        Record::Test { left, right, same, other } => Some(Node::Test { left, right, same, other }),
-        Record::Begin { names, next } => Some(Node::Begin { label: label_of(names)?, next }),
-        Record::End { names, next } => Some(Node::End { label: label_of(names)?, next }),
+        Record::Test {
+            left,
+            right,
+            same,
+            other,
+        } => Some(Node::Test {
+            left,
+            right,
+            same,
+            other,
+        }),
+        Record::Begin { names, next } => Some(Node::Begin {
+            label: label_of(names)?,
+            next,
+        }),
+        Record::End { names, next } => Some(Node::End {
+            label: label_of(names)?,
+            next,
+        }),
         _ => None,
     }
 }

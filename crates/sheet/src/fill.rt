@@ -47,8 +47,16 @@ fn type_of(given: Record, own: usize) -> Option<SheetType>
             if !tuple_below(own, &components) {
                 return None;
             }
-            let filler = Entry { label: Label { items: Items::One(Item::Name(0)) }, amount: 0 };
-            Some(SheetType::Channel(ChannelType { components, entries: Table::new(filler) }))
+            let filler = Entry {
+                label: Label {
+                    items: Items::One(Item::Name(0)),
+                },
+                amount: 0,
+            };
+            Some(SheetType::Channel(ChannelType {
+                components,
+                entries: Table::new(filler),
+            }))
         }
         _ => None,
     }
@@ -65,7 +73,11 @@ fn entry_in(given: Record, basis: Basis, totals: Census) -> Option<Entry>
     let Some(made) = entry_of(amount, items) else {
         return None;
     };
-    if entry_fits(basis.largest, totals.names, &made) { Some(made) } else { None }
+    if entry_fits(basis.largest, totals.names, &made) {
+        Some(made)
+    } else {
+        None
+    }
 }
 
 impl Tables {
@@ -73,7 +85,11 @@ impl Tables {
     fn new() -> Tables
         ensures { λ r. ⌜ (elements (r .types) ≡ []) × (elements (r .names) ≡ []) × (elements (r .nodes) ≡ []) ⌝ }
     {
-        Tables { types: Table::new(SheetType::Pure), names: Table::new(0), nodes: Table::new(Node::Stop) }
+        Tables {
+            types: Table::new(SheetType::Pure),
+            names: Table::new(0),
+            nodes: Table::new(Node::Stop),
+        }
     }
 
     /// The type of a record, at the end of the types; false where it is out of range.
@@ -163,7 +179,11 @@ fn head_fits(given: Record, basis: Basis) -> bool
     ensures { λ r. ⌜ Decides r (given ≡ head 1 (basis .code) (basis .full)) ⌝ }
 {
     match given {
-        Record::Head { edition, code, full } => edition == 1 && code == basis.code && full == basis.full,
+        Record::Head {
+            edition,
+            code,
+            full,
+        } => edition == 1 && code == basis.code && full == basis.full,
         _ => false,
     }
 }

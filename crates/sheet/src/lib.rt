@@ -2,8 +2,8 @@
 pub mod basis;
 pub mod census;
 mod decode;
-mod range;
 mod fill;
+mod range;
 pub mod record;
 mod scan;
 pub mod table;

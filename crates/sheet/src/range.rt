@@ -16,9 +16,14 @@ fn items_below(limit: usize, items: &Items<u8>) -> bool
     match *items {
         Items::One(a) => (a as usize) < limit,
         Items::Two(a, b) => (a as usize) < limit && (b as usize) < limit,
-        Items::Three(a, b, c) => (a as usize) < limit && (b as usize) < limit && (c as usize) < limit,
+        Items::Three(a, b, c) => (a as usize) < limit
+            && (b as usize) < limit
+            && (c as usize) < limit,
         Items::Four(a, b, c, d) => {
-            (a as usize) < limit && (b as usize) < limit && (c as usize) < limit && (d as usize) < limit
+            (a as usize) < limit
+                && (b as usize) < limit
+                && (c as usize) < limit
+                && (d as usize) < limit
         }
     }
 }
@@ -70,14 +75,24 @@ pub fn node_fits(names: usize, nodes: usize, node: &Node) -> bool
 {
     match *node {
         Node::Stop => true,
-        Node::Send { channel, names: sent } => (channel as usize) < names && tuple_below(names, &sent),
-        Node::Receive { channel, names: bound, next } => {
-            (channel as usize) < names && tuple_below(names, &bound) && (next as usize) < nodes
-        }
+        Node::Send {
+            channel,
+            names: sent,
+        } => (channel as usize) < names && tuple_below(names, &sent),
+        Node::Receive {
+            channel,
+            names: bound,
+            next,
+        } => { (channel as usize) < names && tuple_below(names, &bound) && (next as usize) < nodes }
         Node::Both { first, second } => (first as usize) < nodes && (second as usize) < nodes,
         Node::Copy { next } => (next as usize) < nodes,
         Node::New { name, next } => (name as usize) < names && (next as usize) < nodes,
-        Node::Test { left, right, same, other } => {
+        Node::Test {
+            left,
+            right,
+            same,
+            other,
+        } => {
             (left as usize) < names
                 && (right as usize) < names
                 && (same as usize) < nodes

@@ -31,7 +31,13 @@ impl Census {
     pub fn new() -> Census
         ensures { λ r. ⌜ r ≡ nothing ⌝ }
     {
-        Census { heads: 0, types: 0, names: 0, nodes: 0, room: 0 }
+        Census {
+            heads: 0,
+            types: 0,
+            names: 0,
+            nodes: 0,
+            room: 0,
+        }
     }
 
     /// Whether a record of this class stands wrongly, or is one too many, after these.
@@ -54,14 +60,56 @@ impl Census {
         requires { ⌜ misplaced (now self) kind ≡ false ⌝ }
         ensures { λ r. ⌜ r ≡ after (now (self .entry)) kind ⌝ }
     {
-        let Census { heads, types, names, nodes, room } = *self;
+        let Census {
+            heads,
+            types,
+            names,
+            nodes,
+            room,
+        } = *self;
         match kind {
-            Class::Head => Census { heads: heads + 1, types, names, nodes, room: 0 },
-            Class::Plain => Census { heads, types: types + 1, names, nodes, room: 0 },
-            Class::Channel => Census { heads, types: types + 1, names, nodes, room: 8 },
-            Class::Entry => Census { heads, types, names, nodes, room: room - 1 },
-            Class::Name => Census { heads, types, names: names + 1, nodes, room: 0 },
-            Class::Node => Census { heads, types, names, nodes: nodes + 1, room: 0 },
+            Class::Head => Census {
+                heads: heads + 1,
+                types,
+                names,
+                nodes,
+                room: 0,
+            },
+            Class::Plain => Census {
+                heads,
+                types: types + 1,
+                names,
+                nodes,
+                room: 0,
+            },
+            Class::Channel => Census {
+                heads,
+                types: types + 1,
+                names,
+                nodes,
+                room: 8,
+            },
+            Class::Entry => Census {
+                heads,
+                types,
+                names,
+                nodes,
+                room: room - 1,
+            },
+            Class::Name => Census {
+                heads,
+                types,
+                names: names + 1,
+                nodes,
+                room: 0,
+            },
+            Class::Node => Census {
+                heads,
+                types,
+                names,
+                nodes: nodes + 1,
+                room: 0,
+            },
         }
     }
 }
@@ -76,12 +124,24 @@ impl Scan {
         let place = self.place + 1;
         let kind = class(given);
         if self.wrong.is_some() {
-            return Scan { place, wrong: self.wrong, census: self.census };
+            return Scan {
+                place,
+                wrong: self.wrong,
+                census: self.census,
+            };
         }
         if self.census.misplaces(kind) {
-            return Scan { place, wrong: Some(self.place), census: self.census };
+            return Scan {
+                place,
+                wrong: Some(self.place),
+                census: self.census,
+            };
         }
-        Scan { place, wrong: None, census: self.census.with(kind) }
+        Scan {
+            place,
+            wrong: None,
+            census: self.census.with(kind),
+        }
     }
 }
 
@@ -90,7 +150,11 @@ impl Scan {
 pub fn scan(bytes: &[u8]) -> Result<Census, Fault>
     ensures { λ r. ⌜ Scanned (now (bytes .entry)) r ⌝ }
 {
-    let mut seen = Scan { place: 0, wrong: None, census: Census::new() };
+    let mut seen = Scan {
+        place: 0,
+        wrong: None,
+        census: Census::new(),
+    };
     let mut left = bytes;
     while !left.is_empty() {
         let Some((next, rest)) = read(left) else {

@@ -14,5 +14,5 @@ returns-in-Break-components c =
     (record {
       not-pure = λ e. let z : _≡_ {A = ℕ} 0 1 = cc in omega arith;
       not-public = λ e. let z : _≡_ {A = ℕ} 0 1 = cc in omega arith;
-      not-channel = λ xs h e. no-channel (c .args .own) (c .pre) _ _ (c .in-Break-components .ensures tt .value) xs h (sym is ∙ e)
+      not-channel = λ xs h e. no-channel (c .args .own) (c .pre) _ _ (c .in-Break-components .ensures tt .value) xs h (sym is ∙ e);
     })

@@ -28,5 +28,5 @@ returns c =
     let m = ap (misplaced (s .census)) (sym k) ∙ sym (c .if-misplaces .ensures tt) in
     record {
       place = refl;
-      seen = λ rs h. subst (λ x. Seen (rs ++ c .args .given ∷ []) (record { place = s .place + 1; wrong = None; census = x })) (sym (c .with .ensures ∙ ap (λ k. Rattle.sheet.specs.Order.after (s .census) k) k)) (seen-more rs (c .args .given) s h w m)
+      seen = λ rs h. subst (λ x. Seen (rs ++ c .args .given ∷ []) (record { place = s .place + 1; wrong = None; census = x })) (sym (c .with .ensures ∙ ap (λ k. Rattle.sheet.specs.Order.after (s .census) k) k)) (seen-more rs (c .args .given) s h w m);
     }
