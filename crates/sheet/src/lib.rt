@@ -3,6 +3,7 @@ pub mod census;
 pub mod record;
 pub mod table;
 pub mod tables;
+pub mod tree;
 pub mod tuple;
 
 pub use record::Quad;
