@@ -1,6 +1,7 @@
 //! Sheets as files: records, tables, and opening.
 pub mod census;
 pub mod record;
+pub mod scope;
 pub mod table;
 pub mod tables;
 pub mod tree;
