@@ -84,7 +84,7 @@ pub data Over (parents : List (Option ℕ)) (b : ℕ) : ℕ → Type 0 where
 abbrev pub Falling : List (Option ℕ) → Type 0
 Falling parents = (k m : ℕ) → getD parents k None ≡ Some m → m < k
 
--- a node below n binds x, by a table of binders
+-- a node with a number lower than n binds x, by a table of binders
 abbrev pub Taken : List (Option ℕ) → (n x : ℕ) → Type 0
 Taken binders n x = (b : ℕ) × (getD binders x None ≡ Some b) × (b < n)
 

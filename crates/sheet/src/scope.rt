@@ -1,6 +1,6 @@
 //! Scope: a name is bound once at most, and used only below its binder.
 ghost use mathlib.Core.Path.{_≡_};
-ghost use mathlib.Core.Bool.{true, false, _||_};
+ghost use mathlib.Core.Bool.{true, false};
 ghost use mathlib.Core.List.{_++_};
 ghost use mathlib.Core.Logic.{_⊎_};
 ghost use Prim.Native.Nat.{ℕ, _<_, _≤_};
@@ -8,11 +8,11 @@ ghost use lib.ListN.{length, getD};
 ghost use Rattle.std.specs.Options.{orOther, whenTrue};
 ghost use Rattle.std.specs.Orderings.{Decides};
 ghost use Rattle.std.specs.Vec.{listOf};
-ghost use Rattle.std.specs.declared.option.Option.the-variants.{Some, None};
+ghost use Rattle.std.specs.declared.option.Option.the-variants.{None};
 ghost use Rattle.fault.specs.First.{Lowest};
 ghost use Rattle.sheet.specs.Encoding.{parts};
 ghost use Rattle.sheet.specs.Range.{all, node-fits};
-ghost use Rattle.sheet.specs.Tree.{children, node-at, misgrown};
+ghost use Rattle.sheet.specs.Tree.{children, misgrown};
 ghost use Rattle.sheet.specs.Scope.{member, repeats, binds, uses, Misnamed, Any, Holders, Over, Falling, Taken, Outside, Charted};
 use crate::tables::Node;
 use crate::tree::children_of;
@@ -38,8 +38,7 @@ fn names_used(node: &Node) -> (Option<u8>, Tuple<u8>)
         Node::Send { channel, names } => (Some(*channel), *names),
         Node::Receive { channel, .. } => (Some(*channel), Tuple::Empty),
         Node::Test { left, right, .. } => (None, Tuple::Of(Items::Two(*left, *right))),
-        Node::Begin { label, .. } => (None, Tuple::Of(label.items)),
-        Node::End { label, .. } => (None, Tuple::Of(label.items)),
+        Node::Begin { label, .. } | Node::End { label, .. } => (None, Tuple::Of(label.items)),
         _ => (None, Tuple::Empty),
     }
 }
@@ -97,7 +96,7 @@ fn find_parents(nodes: &[Node], parents: &mut [Option<usize>])
     }
 }
 
-/// What a table has at a place, and none past its end.
+/// What a table has at a place; none past its end.
 fn at(table: &[Option<usize>], place: usize) -> Option<usize>
     ensures { λ r. ⌜ r ≡ getD (now (table .entry)) place None ⌝ }
 {
@@ -123,7 +122,7 @@ fn is_below(n: usize, b: usize, parents: &[Option<usize>]) -> bool
     false
 }
 
-/// Whether a node below `n` binds the name, if there is one.
+/// Whether a node with a number lower than `n` binds the name, if there is one.
 fn is_taken(name: Option<u8>, n: usize, binders: &[Option<usize>]) -> bool
     ensures { λ r. ⌜ Decides r (Any (Taken (now (binders .entry)) n) (listOf name)) ⌝ }
 {
@@ -155,7 +154,7 @@ fn is_outside(
     }
 }
 
-/// Whether a node below `n` binds one of the names.
+/// Whether a node with a number lower than `n` binds one of the names.
 fn any_taken(names: &Tuple<u8>, n: usize, binders: &[Option<usize>]) -> bool
     ensures { λ r. ⌜ Decides r (Any (Taken (now (binders .entry)) n) (parts (now (names .entry)))) ⌝ }
 {
@@ -199,7 +198,7 @@ fn has_repeats(names: &Tuple<u8>) -> bool
     }
 }
 
-/// Whether node number `n` binds a name twice, or one that a lower node binds.
+/// Whether node number `n` binds a name twice, or one that a node with a lower number binds.
 fn binds_wrongly(node: &Node, n: usize, binders: &[Option<usize>]) -> bool
     ensures { λ r. ⌜ Decides r ((repeats (binds (now (node .entry))) ≡ true) ⊎ Any (Taken (now (binders .entry)) n) (binds (now (node .entry)))) ⌝ }
 {

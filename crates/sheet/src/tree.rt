@@ -2,7 +2,7 @@
 ghost use mathlib.Core.Path.{_≡_};
 ghost use mathlib.Core.Bool.{true, not, _&&_, _||_};
 ghost use mathlib.Core.List.{_++_};
-ghost use Prim.Native.Nat.{ℕ, _+_, _*_, _<_, _≤_};
+ghost use Prim.Native.Nat.{ℕ, _+_, _<_, _≤_};
 ghost use lib.Dec.{eqb, ltb};
 ghost use lib.ListN.{length, getD};
 ghost use Rattle.std.specs.Vec.{listOf};
@@ -17,11 +17,11 @@ pub fn children_of(node: &Node) -> (Option<usize>, Option<usize>)
 {
     match node {
         Node::Stop | Node::Send { .. } => (None, None),
-        Node::Receive { next, .. } => (Some(*next as usize), None),
-        Node::Copy { next } => (Some(*next as usize), None),
-        Node::New { next, .. } => (Some(*next as usize), None),
-        Node::Begin { next, .. } => (Some(*next as usize), None),
-        Node::End { next, .. } => (Some(*next as usize), None),
+        Node::Receive { next, .. }
+        | Node::Copy { next }
+        | Node::New { next, .. }
+        | Node::Begin { next, .. }
+        | Node::End { next, .. } => (Some(*next as usize), None),
         Node::Both { first, second } => (Some(*first as usize), Some(*second as usize)),
         Node::Test { same, other, .. } => (Some(*same as usize), Some(*other as usize)),
     }

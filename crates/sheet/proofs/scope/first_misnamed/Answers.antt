@@ -1,3 +1,6 @@
+use Prim.Native.Nat.{_≤_}
+use native.Mathlib.Omega.{arith}
+use lib.ListN.{length}
 use Rattle.std.specs.declared.option.Option.the-variants.{None}
 use Rattle.std.proofs.shelf.Lists.{getD-replicate}
 use Rattle.sheet.proofs.Charts.{charted}
@@ -11,14 +14,14 @@ find-parents-requires c κs x l = getD-replicate 1024 x None None l
 
 pub find-misnamed-requires : need.find-misnamed-requires
 find-misnamed-requires c κs =
+    let room : length (c .args .nodes .now) ≤ length (c .find-parents .last .parents) = omega (arith, c .pre .few, c .find-parents .kept .parents) in
     charted
     (c .args .nodes .now)
+    (c .pre .ranged)
     (c .find-binders .last .binders)
     (c .find-parents .last .parents)
     (c .find-binders .kept .binders)
-    (c .find-parents .kept .parents)
-    (c .pre .few)
+    room
     (c .pre .tree)
-    (c .pre .ranged)
     (c .find-binders .ensures)
     (c .find-parents .ensures)

@@ -1,13 +1,11 @@
-use mathlib.Core.Path.{_≡_, sym, ap, _∙_}
-use Prim.Native.Nat.{ℕ, _+_, _<_}
+use mathlib.Core.Path.{_≡_, _∙_}
+use Prim.Native.Nat.{_<_}
 use native.Mathlib.Omega.{arith}
 use lib.ListN.{length, getD, take}
-use Rattle.std.specs.Options.{orOther, whenTrue}
 use Rattle.std.specs.Vec.{listOf}
 use Rattle.std.specs.declared.option.Option.the-variants.{None}
 use Rattle.fault.specs.Items.{nth}
 use Rattle.sheet.specs.Encoding.{parts}
-use Rattle.sheet.specs.Scope.{member}
 use Rattle.sheet.proofs.Scoped.{take-nth, noted-more}
 use Rattle.sheet.proofs.scope.note_names.Needs as need
 
