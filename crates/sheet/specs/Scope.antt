@@ -4,7 +4,10 @@ use mathlib.Core.Bool.{Bool, true, false, _||_}
 use mathlib.Core.List.{List, [], _∷_}
 use Prim.Native.Nat.{ℕ, _<_}
 use lib.Dec.{eqb}
-use lib.ListN.{length}
+use lib.ListN.{length, getD}
+use Rattle.std.specs.declared.option.Option.{Option}
+use Rattle.std.specs.declared.option.Option.the-variants.{Some, None}
+use Rattle.fault.specs.First.{Lowest}
 use Rattle.fault.specs.Items.{list}
 use Rattle.sheet.specs.Encoding.{parts}
 use Rattle.sheet.specs.Tree.{children, node-at}
@@ -63,3 +66,35 @@ pub data Misnamed (nodes : List Node) (n : ℕ) : Type 0 where
   bound-already : (x a : ℕ) → a < n → member x (binds (node-at nodes a)) ≡ true → member x (binds (node-at nodes n)) ≡ true → Misnamed nodes n
   -- it uses a name that is bound, and does not stand below its binder
   out-of-scope : (x b : ℕ) → Binder nodes x b → member x (uses (node-at nodes n)) ≡ true → (Below nodes b n → ⊥) → Misnamed nodes n
+
+-- some name of the list has P
+abbrev pub Any : (ℕ → Type 0) → List ℕ → Type 0
+Any P xs = (x : ℕ) × (member x xs ≡ true) × P x
+
+-- the table has for each number the lowest of the first i nodes with it in its list
+abbrev pub Holders : (Node → List ℕ) → List Node → ℕ → List (Option ℕ) → Type 0
+Holders of nodes i table = (x : ℕ) → x < length table → Lowest (λ m. member x (of (node-at nodes m)) ≡ true) i (getD table x None)
+
+-- node b stands over node n, by a table of parents: it is the parent of n, or stands over it
+pub data Over (parents : List (Option ℕ)) (b : ℕ) : ℕ → Type 0 where
+  nearest : {n : ℕ} → getD parents n None ≡ Some b → Over parents b n
+  beyond : {m n : ℕ} → Over parents b m → getD parents n None ≡ Some m → Over parents b n
+
+-- every parent has a lower number
+abbrev pub Falling : List (Option ℕ) → Type 0
+Falling parents = (k m : ℕ) → getD parents k None ≡ Some m → m < k
+
+-- a node with a number lower than n binds x, by a table of binders
+abbrev pub Taken : List (Option ℕ) → (n x : ℕ) → Type 0
+Taken binders n x = (b : ℕ) × (getD binders x None ≡ Some b) × (b < n)
+
+-- x is bound, and its binder does not stand over n, by tables of binders and parents
+abbrev pub Outside : (binders parents : List (Option ℕ)) → (n x : ℕ) → Type 0
+Outside binders parents n x = (b : ℕ) × (getD binders x None ≡ Some b) × (Over parents b n → ⊥)
+
+-- the tables are those of the nodes: the lowest node that binds each name, and the parent of each node
+pub record Charted (nodes : List Node) (binders parents : List (Option ℕ)) : Type 0 where
+  pub bound : (x : ℕ) → Lowest (λ b. member x (binds (node-at nodes b)) ≡ true) (length nodes) (getD binders x None)
+  pub down : (k m : ℕ) → getD parents k None ≡ Some m → member k (children (node-at nodes m)) ≡ true
+  pub up : (k m : ℕ) → member k (children (node-at nodes m)) ≡ true → getD parents k None ≡ Some m
+  pub falls : Falling parents

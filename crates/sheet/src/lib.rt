@@ -6,8 +6,10 @@ mod fill;
 mod range;
 pub mod record;
 mod scan;
+pub mod scope;
 pub mod table;
 pub mod tables;
+pub mod tree;
 pub mod tuple;
 
 pub use record::Quad;

@@ -1,0 +1,13 @@
+use mathlib.Core.Path.{subst}
+use Rattle.std.specs.Vec.{listOf}
+use Rattle.std.proofs.shelf.Ways.{not-from-decides}
+use Rattle.sheet.specs.Encoding.{parts}
+use Rattle.sheet.specs.Scope.{Any, Outside}
+use Rattle.sheet.proofs.Scoped.{any-more}
+use Rattle.sheet.proofs.scope.any_outside.Needs as need
+
+pub loop-i-again : need.loop-i-again
+loop-i-again c =
+    let P = Outside (c .args .binders .now) (c .args .parents .now) (c .args .n) in
+    let here = subst (λ o. Any P (listOf o) → ⊥) (c .get .ensures) (not-from-decides {P = Any P (listOf (c .get .result))} _ (c .is-outside .ensures) (c .if-is-outside .left)) in
+    any-more P (parts (c .args .names .now)) (c .loop-i .i) (c .loop-i .inv) here
