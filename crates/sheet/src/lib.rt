@@ -4,6 +4,7 @@ pub mod record;
 pub mod table;
 pub mod tables;
 pub mod tuple;
+pub mod types;
 
 pub use record::Quad;
 pub use record::Record;
@@ -15,3 +16,5 @@ pub use tables::Node;
 pub use tables::SheetType;
 pub use tables::Tables;
 pub use tuple::Tuple;
+pub use types::first_misformed;
+pub use types::same_label;
