@@ -46,3 +46,6 @@ pub trait Counting: Copy {
     fn lack(&self, a: u32, b: u32) -> u32
         ensures { λ r. ⌜ r ≡ operations (now (self .entry)) .lack a b ⌝ };
 }
+
+#[cfg(test)]
+mod tests;

@@ -7,3 +7,6 @@ pub use fault::Fault;
 pub use fault::Layer;
 pub use items::Items;
 pub use label::Label;
+
+#[cfg(test)]
+mod tests;

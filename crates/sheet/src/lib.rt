@@ -11,6 +11,7 @@ pub mod table;
 pub mod tables;
 pub mod tree;
 pub mod tuple;
+pub mod types;
 
 pub use record::Quad;
 pub use record::Record;
@@ -22,3 +23,5 @@ pub use tables::Node;
 pub use tables::SheetType;
 pub use tables::Tables;
 pub use tuple::Tuple;
+pub use types::first_misformed;
+pub use types::same_label;
