@@ -38,6 +38,9 @@ pub record Progress (b : Basis) (rs : List Record) (place : ℕ) (left : List �
   pub matches : Matches (census (take place rs)) t
   pub range : ranged (b .largest) (totals-of (census rs)) t ≡ true
 
+same-totals : {x y z x′ y′ z′ : ℕ} → x ≡ x′ → y ≡ y′ → z ≡ z′ → _≡_ {A = Totals} (record { types = x; names = y; nodes = z }) (record { types = x′; names = y′; nodes = z′ })
+same-totals p q r = cc
+
 -- the census after one record more
 census-more : (rs : List Record) (p : ℕ) → p < length rs → census (take (p + 1) rs) ≡ after (census (take p rs)) (class-of (getD rs p raw.Stop))
 census-more rs p l = ap census (take-more rs p raw.Stop l) ∙ census-push (take p rs) (getD rs p raw.Stop)
@@ -124,17 +127,28 @@ module _ (b : Basis) (rs : List Record) (order : Ordered rs) (place : ℕ) (left
           range = ranged-more b _ t t′ r g (h .range);
         }
 
-  -- all records have become the tables
-  pub spelled : length left ≡ 0 → Spells b rs t
-  spelled z =
-      let e : place ≡ length rs = let k = none-left rs place left (h .rest) z in let w = h .within in omega arith in
-      let all : take place rs ≡ rs = take-all place rs (omega arith) in
-      let m = subst (λ xs. Matches (census xs) t) all (h .matches) in
-      let n : totals-of (census rs) ≡ totals t = count-same (m .types) (m .names) (m .nodes) in
-      record { in-order = h .sofar ∙ all; in-range = subst (λ x. ranged (b .largest) x t ≡ true) n (h .range) }
-    where
-      count-same : {x y z x′ y′ z′ : ℕ} → x ≡ x′ → y ≡ y′ → z ≡ z′ → _≡_ {A = Totals} (record { types = x; names = y; nodes = z }) (record { types = x′; names = y′; nodes = z′ })
-      count-same p q r = cc
+  module _ (z : length left ≡ 0) where
+    at-end : place ≡ length rs
+    at-end = let k = none-left rs place left (h .rest) z in let w = h .within in omega arith
+
+    whole : take place rs ≡ rs
+    whole = let e = at-end in take-all place rs (omega arith)
+
+    counts : Matches (census rs) t
+    counts = subst (λ xs. Matches (census xs) t) whole (h .matches)
+
+    -- all records have become the tables
+    pub spelled : Spells b rs t
+    spelled = record {
+      in-order = h .sofar ∙ whole;
+      in-range = subst (λ x. ranged (b .largest) x t ≡ true) (same-totals (counts .types) (counts .names) (counts .nodes)) (h .range)
+    }
+
+    pub all-fit : (q : ℕ) → q < length rs → FitsAt b rs q
+    all-fit q l = let e = at-end in h .fits q (omega arith)
+
+    pub some-node : 0 < census rs .nodes → 0 < length (elements (t .nodes))
+    some-node l = subst (λ k. 0 < k) (counts .nodes) l
 
 -- the records of tables of nothing
 pub record Nothing (t : Tables) : Type 0 where

@@ -84,7 +84,7 @@ pub record Spells (b : Basis) (rs : List Record) (t : Tables) : Type 0 where
 
 -- a fill answers the sheet that the records mean, or the first record that is out of range
 abbrev pub Filled : Basis → List ℕ → Census → Result Tables ℕ → Type 0
-Filled b given n (Ok t) = (rs : List Record) × Readable given n rs × Spells b rs t
+Filled b given n (Ok t) = (rs : List Record) × Readable given n rs × Spells b rs t × ((q : ℕ) → q < length rs → FitsAt b rs q) × (0 < length (elements (t .nodes)))
 Filled b given n (Err p) = (rs : List Record) × Readable given n rs × (p < length rs) × (FitsAt b rs p → ⊥) × ((q : ℕ) → q < p → FitsAt b rs q)
 
 -- the type that a record means, without entries, in range as type number own

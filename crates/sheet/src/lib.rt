@@ -1,17 +1,21 @@
 //! Sheets as files: records, tables, and opening.
 pub mod basis;
 pub mod census;
+mod check;
 mod decode;
 mod fill;
+mod meant;
+mod built;
+mod opened;
 mod range;
 pub mod record;
 mod scan;
-pub mod scope;
+mod scope;
 pub mod table;
 pub mod tables;
-pub mod tree;
+mod tree;
 pub mod tuple;
-pub mod types;
+mod types;
 
 pub use record::Quad;
 pub use record::Record;
@@ -23,5 +27,3 @@ pub use tables::Node;
 pub use tables::SheetType;
 pub use tables::Tables;
 pub use tuple::Tuple;
-pub use types::first_misformed;
-pub use types::same_label;

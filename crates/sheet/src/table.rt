@@ -26,7 +26,8 @@ impl<T: Copy, const N: usize> Table<T, N> {
 
     /// The things, in order.
     pub fn as_slice(&self) -> &[T]
-        ensures { λ r. ⌜ now r ≡ elements (now (self .entry)) ⌝ }
+        ensures value { λ r. ⌜ now r ≡ elements (now (self .entry)) ⌝ }
+        ensures within { λ r. ⌜ length (now r) ≤ N ⌝ }
     {
         let all = &self.items[..];
         let used = self.count.min(all.len());

@@ -7,7 +7,7 @@ use Rattle.std.proofs.shelf.Ways.{not-from-decides}
 use Rattle.sheet.specs.Elements.{elements}
 use Rattle.sheet.specs.Range.{Fits}
 use Rattle.sheet.specs.Filling.{totals-of, Grown}
-use Rattle.sheet.proofs.Progress.{first-readable, head-unfit, started, not-over, readable, has-room, unfit, further, spelled, few-names}
+use Rattle.sheet.proofs.Progress.{first-readable, head-unfit, started, not-over, readable, has-room, unfit, further, spelled, all-fit, some-node, few-names}
 use Rattle.sheet.proofs.Reading.{shorter}
 use Rattle.sheet.proofs.fill.fill.Needs as need
 
@@ -66,4 +66,6 @@ loop-left-again c =
 pub returns : need.returns
 returns c =
     let i = c .loop-left .inv .1 in
-    (i .0, i .1, spelled (c .args .basis) (i .0) (i .1 .order) _ _ _ (i .2) (true-eqb _ 0 (c .loop-left-test .ensures tt)))
+    let z = true-eqb _ 0 (c .loop-left-test .ensures tt) in
+    let b = c .args .basis in
+    (i .0, i .1, spelled b (i .0) (i .1 .order) _ _ _ (i .2) z, all-fit b (i .0) (i .1 .order) _ _ _ (i .2) z, some-node b (i .0) (i .1 .order) _ _ _ (i .2) z (i .1 .some))

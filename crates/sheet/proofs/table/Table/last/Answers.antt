@@ -5,4 +5,4 @@ use Rattle.sheet.proofs.Growing.{last-given}
 use Rattle.sheet.proofs.table.Table.last.Needs as need
 
 pub returns : need.returns
-returns g c = c .copied .ensures ∙ last-given _ _ (c .last .ensures .item) ∙ ap last-of (c .as-slice .ensures)
+returns g c = c .copied .ensures ∙ last-given _ _ (c .last .ensures .item) ∙ ap last-of (c .as-slice .ensures .value)

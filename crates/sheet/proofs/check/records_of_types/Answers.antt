@@ -1,0 +1,21 @@
+use borrow.Author.Needs.{needs}
+use mathlib.Core.Path.{_≡_, sym, ap, _∙_}
+use native.Mathlib.Omega.{arith}
+use lib.ListN.{length}
+use lib.Seq.{take-all}
+use Rattle.std.specs.Joined.{joined}
+use Rattle.sheet.specs.Encoding.{type-records}
+use Rattle.sheet.proofs.Checking.{records-more}
+use Rattle.sheet.proofs.check.records_of_types.Needs as need
+
+pub loop-given-again : need.loop-given-again
+loop-given-again c =
+    let i = c .loop-given .inv in
+    let one = c .records-of-type-count .ensures in
+    (records-more (c .args .types .now) (c .loop-given .given-index) _ _ _ (c .loop-given-test .taken) (search needs) (i .0) (one .value), omega (arith, i .1, one .few))
+
+pub returns : need.returns
+returns c =
+    let i = c .loop-given .inv in
+    let e = ap (λ xs. length (joined type-records xs)) (take-all (c .loop-given .given-index) (c .args .types .now) (c .loop-given-test .left)) in
+    record { value = i .0 ∙ e; few = omega (arith, i .1, c .pre, c .loop-given .kept .given-index-end) }
