@@ -141,7 +141,7 @@ module _ (b : Basis) (rs : List Record) (order : Ordered rs) (place : ℕ) (left
     pub spelled : Spells b rs t
     spelled = record {
       in-order = h .sofar ∙ whole;
-      in-range = subst (λ x. ranged (b .largest) x t ≡ true) (same-totals (counts .types) (counts .names) (counts .nodes)) (h .range)
+      in-range = subst (λ x. ranged (b .largest) x t ≡ true) (same-totals (counts .types) (counts .names) (counts .nodes)) (h .range);
     }
 
     pub all-fit : (q : ℕ) → q < length rs → FitsAt b rs q

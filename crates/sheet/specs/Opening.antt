@@ -1,7 +1,7 @@
 -- What opening answers: the first fault of the bytes, or the sheet that they mean.
 use mathlib.Core.Path.{_≡_}
 use mathlib.Core.Bool.{true, false}
-use mathlib.Core.List.{List, _++_}
+use mathlib.Core.List.{List, [], _∷_, _++_}
 use Prim.Native.Nat.{ℕ, suc, _+_, _<_}
 use lib.ListN.{length, take}
 use Rattle.std.specs.Joined.{joined}
@@ -24,6 +24,7 @@ use Rattle.sheet.specs.Types.{Misformed}
 use Rattle.sheet.specs.Filling.{FitsAt, Spells}
 use Rattle.sheet.specs.declared.basis.Basis.{Basis}
 use Rattle.sheet.specs.declared.record.Record.{Record}
+use Rattle.sheet.specs.declared.tables.Node.the-variants.{Stop}
 use Rattle.sheet.specs.declared.tables.Tables.{Tables}
 
 -- the record number of a type, and of a node
@@ -82,3 +83,14 @@ Means b given (Err f) = (R : Reading given) × First (Faulty b R) (Some f)
 -- what a counting asks of a sheet
 abbrev pub basis-of : ℕ → Operations → Basis
 basis-of code K = record { code = code; full = K .full; largest = K .largest }
+
+-- opening: with no fault the place holds the sheet that the bytes mean; else the answer is the first fault
+abbrev pub Opens : Basis → List ℕ → (after : Tables) → Result (Unit {0}) Fault → Type 0
+Opens b given after (Ok u) = Means b given (Ok after)
+Opens b given after (Err f) = Means b given (Err f)
+
+-- a sheet of one stop
+pub record OneStop (t : Tables) : Type 0 where
+  pub types : elements (t .types) ≡ []
+  pub names : elements (t .names) ≡ []
+  pub nodes : elements (t .nodes) ≡ Stop ∷ []

@@ -32,15 +32,18 @@ pub impl Sheets for Parts as PartsSheets {
     ghost held = { λ s. s .tables };
 
     fn seal(self, tables: Tables) -> PartsSheet {
-        PartsSheet { counting: self, tables }
+        PartsSheet {
+            counting: self,
+            tables,
+        }
     }
 
     fn counting(sheet: &PartsSheet) -> Parts {
         sheet.counting
     }
 
-    fn tables(sheet: &PartsSheet) -> &Tables {
-        &sheet.tables
+    fn tables(sheet: &PartsSheet) -> Tables {
+        sheet.tables
     }
 }
 
@@ -62,14 +65,17 @@ pub impl Sheets for Once as OnceSheets {
     ghost held = { λ s. s .tables };
 
     fn seal(self, tables: Tables) -> OnceSheet {
-        OnceSheet { counting: self, tables }
+        OnceSheet {
+            counting: self,
+            tables,
+        }
     }
 
     fn counting(sheet: &OnceSheet) -> Once {
         sheet.counting
     }
 
-    fn tables(sheet: &OnceSheet) -> &Tables {
-        &sheet.tables
+    fn tables(sheet: &OnceSheet) -> Tables {
+        sheet.tables
     }
 }

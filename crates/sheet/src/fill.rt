@@ -82,7 +82,7 @@ fn entry_in(given: Record, basis: Basis, totals: Census) -> Option<Entry>
 
 impl Tables {
     /// Tables of nothing.
-    fn new() -> Tables
+    pub(crate) fn new() -> Tables
         ensures { λ r. ⌜ (elements (r .types) ≡ []) × (elements (r .names) ≡ []) × (elements (r .nodes) ≡ []) ⌝ }
     {
         Tables {

@@ -1,12 +1,12 @@
 //! Sheets as files: records, tables, and opening.
 pub mod basis;
+pub mod built;
 pub mod census;
 mod check;
 mod decode;
 mod fill;
 mod meant;
-mod built;
-mod opened;
+pub mod opened;
 mod range;
 pub mod record;
 mod scan;
@@ -17,6 +17,11 @@ mod tree;
 pub mod tuple;
 mod types;
 
+pub use built::OnceSheets;
+pub use built::PartsSheets;
+pub use opened::OpenedSheet;
+pub use opened::Sheets;
+pub use opened::open;
 pub use record::Quad;
 pub use record::Record;
 pub use table::Table;

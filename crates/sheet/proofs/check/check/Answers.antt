@@ -41,8 +41,11 @@ first-misnamed-requires c κs =
     record {
       few = c .as-slice-nodes .ensures .within;
       tree = λ n l. is-false (misgrown (c .as-slice-nodes .result .now) n) (c .in-rest .ensures tt n l);
-      ranged = (length (elements (t .names)), omega (arith, c .len .ensures .value, c .len .ensures .within),
-        subst (λ xs. all (node-fits (length (elements (t .names))) (length xs)) xs ≡ true) (sym (c .as-slice-nodes .ensures .value)) fits)
+      ranged = (
+        length (elements (t .names)),
+        omega (arith, c .len .ensures .value, c .len .ensures .within),
+        subst (λ xs. all (node-fits (length (elements (t .names))) (length xs)) xs ≡ true) (sym (c .as-slice-nodes .ensures .value)) fits,
+      );
     }
 
 pub returns-in-Some-first-misnamed : need.returns-in-Some-first-misnamed
