@@ -1,17 +1,13 @@
 -- The lines that the bench prints, as bytes.
-use mathlib.Core.Bool.{cond}
 use mathlib.Core.List.{List, [], _∷_, _++_}
 use Prim.Native.Nat.{ℕ}
 use lib.Chars.{codes}
-use lib.Dec.{ltb}
-use lib.ListN.{length}
 use Rattle.std.specs.Written.{decimal}
 use Rattle.std.specs.declared.option.Option.{Option}
 use Rattle.std.specs.declared.option.Option.the-variants.{Some, None}
 use Rattle.fault.specs.Faults.{numberOf, layerOf, placeOf, amissOf}
 use Rattle.fault.specs.Items.{list}
 use Rattle.fault.specs.declared.fault.Fault.{Fault}
-use Rattle.fault.specs.declared.fault.Fault.the-variants.{Unreadable, WrongOrder}
 use Rattle.fault.specs.declared.fault.Layer.{Layer}
 use Rattle.fault.specs.declared.fault.Layer.the-variants.{Sheet, Judge, Run}
 use Rattle.fault.specs.declared.label.Label.{Label}
@@ -42,7 +38,3 @@ refused f =
 -- the line of a sheet that opens, with the count of its nodes
 abbrev pub opened : ℕ → List ℕ
 opened nodes = codes "OPEN " ++ (decimal nodes ++ codes "\n")
-
--- the line of an input
-abbrev pub answer : List ℕ → List ℕ
-answer bytes = cond (ltb 16384 (length bytes)) (refused (WrongOrder 0)) (refused (Unreadable 0))

@@ -1,30 +1,22 @@
 //! The bench: reads a sheet from standard input and prints one line about it.
-ghost use mathlib.Core.Path.{_≡_};
 ghost use Prim.Native.Nat.{_≤_};
 ghost use lib.ListN.{length};
-ghost use Rattle.std.specs.Of.String.{string-bytes};
 ghost use Rattle.std.specs.Vec.{made};
-ghost use Rattle.bench.specs.Lines.{answer};
-use fault::Fault;
-use std::alloc::AllocError;
-use std::alloc::Global;
 use std::io;
 use std::io::Read;
 
+mod answer;
 mod choice;
 mod lines;
 
-/// The most bytes that a sheet may have.
-const LIMIT: usize = 16384;
-
 /// One byte more than a sheet may have, which tells that an input is longer.
-const PAST: usize = LIMIT + 1;
+const PAST: usize = answer::LIMIT + 1;
 
 fn main(rt: LibcRuntime) -> io::Result<()> {
     let mut buffer = [0; PAST];
     let mut input = rt.stdin();
     let len = fill(&mut input, &mut buffer)?;
-    let line = line_for(rt.alloc(), &buffer[0..len])?;
+    let line = answer::line_for(rt.alloc(), &buffer[0..len])?;
     rt.print(line.as_str())
 }
 
@@ -42,16 +34,4 @@ fn fill<R: Read>(input: &mut R, buffer: &mut [u8]) -> io::Result<usize>
         len += got;
     }
     Ok(len)
-}
-
-/// The line for an input.
-fn line_for(heap: Global, bytes: &[u8]) -> Result<String, AllocError>
-    ensures { λ r. ⌜ made r (λ s. string-bytes s ≡ answer (now (bytes .entry))) ⌝ }
-{
-    if bytes.len() > LIMIT {
-        return lines::refused_line(heap, &Fault::WrongOrder(0));
-    }
-    let _counting = choice::choose(bytes);
-    // HERE THE BYTES ARE JUDGED: open them with this counting, and print `opened_line` or the refusal that comes.
-    lines::refused_line(heap, &Fault::Unreadable(0))
 }

@@ -37,7 +37,8 @@ pub trait Sheets: Counting {
         ensures { λ r. ⌜ r ≡ held (now (sheet .entry)) ⌝ };
 }
 
-/// A sheet that was opened, with the counting that it was opened with.
+/// A sheet that was opened, with the counting that it was opened with. It moves, and is filled only by opening.
+#[derive(Drop)]
 pub struct OpenedSheet<C: Sheets> {
     sheet: C::Sheet,
 }
