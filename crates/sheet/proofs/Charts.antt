@@ -21,9 +21,9 @@ use Rattle.sheet.specs.Scope.{member, repeats, binds, uses, Below, Misnamed, A
 use Rattle.sheet.specs.Scope.Below.{child, further}
 use Rattle.sheet.specs.Scope.Over.{nearest, beyond}
 use Rattle.sheet.specs.Scope.Misnamed.{binds-twice, bound-already, out-of-scope}
-use Rattle.sheet.proofs.Parents.{all-member, placed, higher, one-parent}
 use Rattle.sheet.specs.declared.tables.Node.{Node}
 use Rattle.sheet.specs.declared.tables.Node.the-variants.{Stop, Send, Receive, Both, Copy, New, Test, Begin, End}
+use Rattle.sheet.proofs.Parents.{all-member, placed, higher, one-parent}
 
 -- what passes of each node passes of the one at a place
 all-at : (p : Node → Bool) (nodes : List Node) (i : ℕ) → all p nodes ≡ true → i < length nodes → p (node-at nodes i) ≡ true
@@ -31,6 +31,7 @@ all-at p [] i a l = absurd (omega arith)
 all-at p (x ∷ xs) zero a l = and-parts (p x) (all p xs) a .0
 all-at p (x ∷ xs) (suc i) a l = all-at p xs i (and-parts (p x) (all p xs) a .1) (omega arith)
 
+-- what a node in range binds is a name that there is, and its children are nodes that there are
 fits-binds : (names nodes : ℕ) (node : Node) (x : ℕ) → node-fits names nodes node ≡ true → member x (binds node) ≡ true → x < names
 fits-binds names nodes Stop x f m = absurd (false≢true m)
 fits-binds names nodes (Send c xs) x f m = absurd (false≢true m)
@@ -58,7 +59,7 @@ fits-children names nodes (Test y z i j) k f m = let a = and-parts (ltb y names 
 fits-children names nodes (Begin label next) k f m = let a = and-parts _ (ltb next nodes) f .1 in grind (arith, tells)
 fits-children names nodes (End label next) k f m = let a = and-parts _ (ltb next nodes) f .1 in grind (arith, tells)
 
--- the lowest is below all others, and there is one if there is any
+-- what the lowest is, and that there is one where there is any
 lowest-here : (P : ℕ → Type 0) (n : ℕ) (o : Option ℕ) (b : ℕ) → Lowest P n o → o ≡ Some b → (b < n) × P b × ((j : ℕ) → j < b → P j → ⊥)
 lowest-here P n o b h e = subst (Lowest P n) e h
 

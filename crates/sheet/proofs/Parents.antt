@@ -36,6 +36,7 @@ placed of e nodes x m h =
     absurd (false≢true (ap (member x) (sym e ∙ ap of (sym g)) ∙ h)))
     (cases-lt m (length nodes))
 
+-- a member stands in the list at least once
 times-member : (k : ℕ) (xs : List ℕ) → member k xs ≡ true → 1 ≤ times k xs
 times-member k [] m = absurd (false≢true m)
 times-member k (y ∷ ys) m =

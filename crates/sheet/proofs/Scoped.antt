@@ -12,7 +12,7 @@ use Rattle.std.specs.Options.{orOther, whenTrue}
 use Rattle.std.specs.Vec.{listOf}
 use Rattle.std.specs.declared.option.Option.{Option}
 use Rattle.std.specs.declared.option.Option.the-variants.{Some, None}
-use Rattle.std.proofs.shelf.Tests.{or-cases}
+use Rattle.std.proofs.shelf.Tests.{or-cases, or-left, or-right, false≢true}
 use Rattle.fault.specs.Items.{nth}
 use Rattle.sheet.specs.Scope.{member, Any, Over}
 use Rattle.sheet.specs.Scope.Over.{nearest, beyond}
@@ -46,6 +46,15 @@ any-append P xs ys no-x no-y a =
 -- the same for one place more of a list
 pub any-more : (P : ℕ → Type 0) (xs : List ℕ) (i : ℕ) → (Any P (take i xs) → ⊥) → (Any P (listOf (nth xs i)) → ⊥) → Any P (take (i + 1) xs) → ⊥
 any-more P xs i before here = rw take-nth (any-append P (take i xs) (listOf (nth xs i)) before here)
+
+nth-member : (x : ℕ) (xs : List ℕ) (i : ℕ) → member x (listOf (nth xs i)) ≡ true → member x xs ≡ true
+nth-member x [] i h = absurd (false≢true h)
+nth-member x (y ∷ ys) zero h = ⊎-elim (or-left (eqb x y) (member x ys)) (λ f. absurd (false≢true f)) (or-cases (eqb x y) false h)
+nth-member x (y ∷ ys) (suc i) h = or-right (eqb x y) (member x ys) (nth-member x ys i h)
+
+-- the name at a place has P: one of the list does
+pub any-place : (P : ℕ → Type 0) (xs : List ℕ) (i : ℕ) → Any P (listOf (nth xs i)) → Any P xs
+any-place P xs i a = (a .0, nth-member (a .0) xs i (a .1), a .2)
 
 noted-twice : (o : Option ℕ) (n : ℕ) (a b : Bool) → orOther (orOther o (whenTrue a n)) (whenTrue b n) ≡ orOther o (whenTrue (a || b) n)
 noted-twice (Some m) n a b = refl

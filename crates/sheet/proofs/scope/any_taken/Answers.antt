@@ -1,10 +1,16 @@
-use mathlib.Core.Path.{subst}
+use mathlib.Core.Path.{refl, subst}
 use Rattle.std.specs.Vec.{listOf}
 use Rattle.std.proofs.shelf.Ways.{not-from-decides}
 use Rattle.sheet.specs.Encoding.{parts}
 use Rattle.sheet.specs.Scope.{Any, Taken}
-use Rattle.sheet.proofs.Scoped.{any-more}
+use Rattle.sheet.proofs.Scoped.{any-place, any-more}
 use Rattle.sheet.proofs.scope.any_taken.Needs as need
+
+pub returns-then-is-taken : need.returns-then-is-taken
+returns-then-is-taken c =
+    let P = Taken (c .args .binders .now) (c .args .n) in
+    let here = subst (λ o. Any P (listOf o)) (c .get .ensures) (c .is-taken .ensures .0 (c .if-is-taken .taken)) in
+    (λ _. any-place P (parts (c .args .names .now)) (c .loop-i .i) here, λ _. refl)
 
 pub loop-i-again : need.loop-i-again
 loop-i-again c =
