@@ -1,1 +1,14 @@
 pub mod Countings
+pub mod Lists
+pub mod Joins
+pub mod Labels
+pub mod Types
+pub mod Scopes
+pub mod Processes
+pub mod Effects
+pub mod Typing
+pub mod Checks
+pub mod Reduction
+pub mod Safety
+pub mod Ceiling
+pub mod Theorems

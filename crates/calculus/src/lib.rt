@@ -1,1 +1,19 @@
 //! The mathematics that sheets are judged and run by. No bytes, no tables, no limits of memory.
+//!
+//! The definitions and the statements stand in `specs/`, the proofs in `proofs/`. Each function here answers 0;
+//! what it is for stands in its contract, a theorem.
+ghost use Rattle.calculus.specs.Theorems.{Typing-agrees, Runs-safe};
+
+/// The rules derive an effect for a process exactly when the checks accept it, and the least amount is the least effect that they derive.
+pub fn typing_agrees() -> u8
+    ensures { λ _. ⌜ Typing-agrees ⌝ }
+{
+    0
+}
+
+/// Every configuration that a run of an accepted process reaches is safe, and none is an error, whatever the counting.
+pub fn runs_safe() -> u8
+    ensures { λ _. ⌜ Runs-safe ⌝ }
+{
+    0
+}

@@ -1,0 +1,12 @@
+pub mod Lists
+pub mod Joins
+pub mod Universes
+pub mod Labels
+pub mod Scopes
+pub mod Meanings
+pub mod Effects
+pub mod Typing
+pub mod Valuations
+pub mod Threads
+pub mod Preservation
+pub mod Safety

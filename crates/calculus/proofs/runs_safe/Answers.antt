@@ -1,0 +1,5 @@
+use Rattle.calculus.proofs.Safety.{runs-safe}
+use Rattle.calculus.proofs.runs_safe.Needs as need
+
+pub returns : need.returns
+returns c = runs-safe
