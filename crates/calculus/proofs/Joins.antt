@@ -1,6 +1,6 @@
 -- Joins: what the first three laws give for joins of two, over lists and over bags.
 use mathlib.Core.Path.{_≡_, refl, sym, _∙_, ap, ap₂, fun-ext, subst}
-use mathlib.Core.List.{List, [], _∷_, map}
+use mathlib.Core.List.{List, [], _∷_, map, _++_}
 use Prim.Native.Nat.{ℕ, _+_, _≤_}
 use native.Mathlib.Nat.{le-refl, le-trans, add-comm, zero-add}
 use native.Mathlib.Numerals.{add-one}
@@ -114,6 +114,10 @@ module _ (K : Operations) (W : Laws K) where
   over-removal t xs r f (there {y = y} {l = l} {rest = s} h) =
       ap (K .join (f y)) (over-removal t l s f h) ∙ sym (W .associative (f y) (f t) _)
       ∙ ap (λ x. K .join x (join-over K s f)) (W .commutative (f y) (f t)) ∙ W .associative (f t) (f y) _
+
+  pub joined-append : (a b : List ℕ) → joined K (a ++ b) ≡ K .join (joined K a) (joined K b)
+  joined-append [] b = sym (neutral-left _)
+  joined-append (x ∷ a) b = ap (K .join x) (joined-append a b) ∙ sym (W .associative x (joined K a) (joined K b))
 
   -- one full right more, on a condition
   pub rights-more : {A : Type 0} (d : Dec A) (n : ℕ) → rights K (amount-if d 1 + n) ≡ K .join (amount-if d (K .full)) (rights K n)

@@ -10,3 +10,6 @@ pub mod Valuations
 pub mod Threads
 pub mod Preservation
 pub mod Safety
+pub mod Ceiling
+pub mod Built
+pub mod Worked

@@ -11,4 +11,6 @@ pub mod Checks
 pub mod Reduction
 pub mod Safety
 pub mod Ceiling
+pub mod Built
+pub mod Worked
 pub mod Theorems

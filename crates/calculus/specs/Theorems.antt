@@ -11,6 +11,9 @@ use Rattle.calculus.specs.Typing.{Rule, Derives}
 use Rattle.calculus.specs.Checks.{Checks}
 use Rattle.calculus.specs.Reduction.{Configuration, Reachable, Error}
 use Rattle.calculus.specs.Safety.{Accepted, Start, Safe}
+use Rattle.calculus.specs.Ceiling.{Entries-small, Few}
+use Rattle.calculus.specs.Built.{parts, once}
+use Rattle.calculus.specs.Worked.{Works}
 
 -- what is said of a process in a scope
 pub record Agreement (K : Operations) (types : Assignment) (Γ : Scope) (p : Process) : Type 0 where
@@ -31,3 +34,20 @@ Typing-agrees = (K : Operations) → Laws K → (types : Assignment) (Γ : Scope
 abbrev pub Runs-safe : Type 0
 Runs-safe = (K : Operations) → Laws K → (types : Assignment) (free : Scope) (p : Process) (c d : Configuration) →
     Accepted K types free p → Start free p c → Reachable K c d → Safe K types d × (Error K d → ⊥)
+
+-- what is said of the amount of a process at a label
+pub record Fits-ceiling (K : Operations) (types : Assignment) (p : Process) (L : Label Name) : Type 0 where
+  -- it is at most a join of at most 8 amounts a node, each at most the largest entry
+  pub few : Few K (8 * size p) (amount K types p L)
+  -- so up to 1,024 nodes it fits the ceiling
+  pub fits : size p ≤ 1024 → amount K types p L ≤ K .ceiling
+  -- and where it joined with itself passes the ceiling, that is not the amount itself
+  pub copy-decided : size p ≤ 1024 → K .ceiling < K .join (amount K types p L) (amount K types p L) → K .join (amount K types p L) (amount K types p L) ≡ amount K types p L → ⊥
+
+-- no join passes the ceiling, where no type has more than 8 entries and no entry is larger than an entry may be
+abbrev pub Amounts-fit : Type 0
+Amounts-fit = (K : Operations) → Laws K → (types : Assignment) → ((x : Name) → Entries-small K (types x)) → (p : Process) (L : Label Name) → Fits-ceiling K types p L
+
+-- nothing is empty: under parts with any full right that fits an entry, and under once, the worked process is accepted and runs to an end
+abbrev pub Nothing-empty : Type 0
+Nothing-empty = ((n : ℕ) → 1 ≤ n → n ≤ 100000 → Works (parts n)) × Works once

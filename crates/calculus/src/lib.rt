@@ -2,7 +2,7 @@
 //!
 //! The definitions and the statements stand in `specs/`, the proofs in `proofs/`. Each function here answers 0;
 //! what it is for stands in its contract, a theorem.
-ghost use Rattle.calculus.specs.Theorems.{Typing-agrees, Runs-safe};
+ghost use Rattle.calculus.specs.Theorems.{Typing-agrees, Runs-safe, Amounts-fit, Nothing-empty};
 
 /// The rules derive an effect for a process exactly when the checks accept it, and the least amount is the least effect that they derive.
 pub fn typing_agrees() -> u8
@@ -14,6 +14,20 @@ pub fn typing_agrees() -> u8
 /// Every configuration that a run of an accepted process reaches is safe, and none is an error, whatever the counting.
 pub fn runs_safe() -> u8
     ensures { λ _. ⌜ Runs-safe ⌝ }
+{
+    0
+}
+
+/// No join passes the ceiling: an amount is made of at most 8 entries a node, so a process of 1,024 nodes stays below.
+pub fn amounts_fit() -> u8
+    ensures { λ _. ⌜ Amounts-fit ⌝ }
+{
+    0
+}
+
+/// Nothing of this is empty: a worked process is accepted under both countings, and a run of it reaches an end.
+pub fn nothing_empty() -> u8
+    ensures { λ _. ⌜ Nothing-empty ⌝ }
 {
     0
 }

@@ -1,0 +1,5 @@
+use Rattle.calculus.proofs.Ceiling.{amounts-fit}
+use Rattle.calculus.proofs.amounts_fit.Needs as need
+
+pub returns : need.returns
+returns c = amounts-fit

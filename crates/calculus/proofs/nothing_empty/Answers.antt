@@ -1,0 +1,5 @@
+use Rattle.calculus.proofs.Worked.{nothing-empty}
+use Rattle.calculus.proofs.nothing_empty.Needs as need
+
+pub returns : need.returns
+returns c = nothing-empty
