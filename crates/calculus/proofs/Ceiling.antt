@@ -66,13 +66,13 @@ module _ (K : Operations) (W : Laws K) where
     few-amount (begin l p) = few-less (omega arith) (lack-at-most K W _ _) (few-amount p)
     few-amount (end l p) = few-less (omega arith) (le-refl _) (few-join (few-amount p) (few-one _ (if-at-most (l ≟ L) (K .full) (K .largest) (W .full-entry))))
 
-    fits-ceiling : (p : Process) → size p ≤ 1024 → amount K types p L ≤ K .ceiling
+    fits-ceiling : (p : Process) → 8 * size p ≤ 8192 → amount K types p L ≤ K .ceiling
     fits-ceiling p h = let f = few-amount p in le-trans (f .bound) (W .bounded (f .amounts) (let k = f .few in omega arith) (f .each))
 
 pub amounts-fit : Amounts-fit
 amounts-fit K W types small p L =
     record {
       few = few-amount K W types small L p;
-      fits = fits-ceiling K W types small L p;
-      copy-decided = λ h l e. let k = fits-ceiling K W types small L p h in omega arith;
+      fits = λ h. fits-ceiling K W types small L p (omega arith);
+      copy-decided = λ h l e. let k = fits-ceiling K W types small L p (omega arith) in omega arith;
     }

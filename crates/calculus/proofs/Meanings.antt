@@ -97,7 +97,7 @@ module _ (K : Operations) (W : Laws K) where
     meaning-local ρ σ h pure before outer w = refl
     meaning-local ρ σ h public before outer w = refl
     meaning-local ρ σ h (channel n components entries) before outer w =
-        channel-alike refl (λ i vs. below-alike i n n _ _ refl (λ l. meaning-local ρ σ h (components i) (push i before) (push vs outer) (w .2 i l)))
+        channel-alike refl (λ i vs. below-alike i n n _ _ refl (λ l. meaning-local ρ σ h (components i) _ (push vs outer) (w .2 i l)))
         (λ vs M. entries-alike (push n before) (item-value ρ (push vs outer)) (item-value σ (push vs outer)) (same vs) M entries (w .1))
       where
         same : (vs : List Value) (x : Item) → Well-formed-item Γ (push n before) x → item-value ρ (push vs outer) x ≡ item-value σ (push vs outer) x
@@ -133,7 +133,7 @@ module _ (K : Operations) (W : Laws K) where
     filled-meaning ρ ys (channel n components entries) k before outer filled w b h =
         channel-alike refl
         (λ i vs. below-alike i n n _ _ refl (λ l.
-        filled-meaning ρ ys (components i) (suc k) (push i before) (push vs outer) (push vs filled) (w .2 i l) b (filled-push ρ ys k outer filled vs h)))
+        filled-meaning ρ ys (components i) (suc k) _ (push vs outer) (push vs filled) (w .2 i l) b (filled-push ρ ys k outer filled vs h)))
         (λ vs M. over-map K W (fill-entry ys (suc k)) entries (λ e. amount-if (map-label (item-value ρ (push vs outer)) (e .label) ≟ M) (e .amount))
         ∙ over-alike K W entries (λ e. ap (λ L. amount-if (L ≟ M) (e .amount)) (map-label-twice (item-value ρ (push vs outer)) (fill-item ys (suc k)) (e .label)))
         ∙ entries-alike (push n before) (λ x. item-value ρ (push vs outer) (fill-item ys (suc k) x)) (item-value ρ (push vs filled)) (same vs) M entries (w .1))
@@ -157,7 +157,7 @@ module _ (K : Operations) (W : Laws K) where
         go public w q = refl
         go (channel n components entries) w q =
             let l : i < n = omega arith in
-            filled-meaning ρ (take i ys) (components i) 0 (push i outermost) nothing-sent (push (map ρ ys) nothing-sent) (w .2 i l)
+            filled-meaning ρ (take i ys) (components i) 0 _ nothing-sent (push (map ρ ys) nothing-sent) (w .2 i l)
             (let m = length-take i ys in omega arith)
             (record { there = λ p k. let m = length-take i ys in getD-map ρ ys p 0 0 (omega arith) ∙ ap ρ (sym (getD-take i ys p 0 (omega arith))); elsewhere = other })
             ∙ sym (cond-true (ltb i n) _ pure-value (lt-ltb i n l))

@@ -34,7 +34,7 @@ count-of (channel-value n c e) = n
 
 -- a channel that is not public takes its count
 takes-count : (K : Operations) (t : NameType) (ρ : Valuation) (k : ℕ) → Takes t k → (meaning K t ρ ≡ public-value → ⊥) → count-of (meaning K t ρ) ≡ k
-takes-count K pure ρ k q n = elim q [ ]
+takes-count K pure ρ k q n = absurd q
 takes-count K public ρ k q n = absurd (n refl)
 takes-count K (channel m components entries) ρ k q n = q
 

@@ -106,7 +106,7 @@ pub well-formed-wider : (Γ Δ : Scope) → ((x : Name) → in-scope Γ x ≡ tr
 well-formed-wider Γ Δ h pure before w = tt
 well-formed-wider Γ Δ h public before w = tt
 well-formed-wider Γ Δ h (channel n components entries) before w =
-    (w .0, all-weaker _ _ (λ e a. all-weaker _ _ item (items (e .label)) a) entries (w .1), λ i l. well-formed-wider Γ Δ h (components i) (push i before) (w .2 i l))
+    (w .0, all-weaker _ _ (λ e a. all-weaker _ _ item (items (e .label)) a) entries (w .1), λ i l. well-formed-wider Γ Δ h (components i) _ (w .2 i l))
   where
     item : (x : Item) → Well-formed-item Γ (push n before) x → Well-formed-item Δ (push n before) x
     item (name x) o = h x o

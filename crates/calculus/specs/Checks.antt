@@ -12,6 +12,7 @@ use Rattle.calculus.specs.Processes.{Process, stop, send, receive, both, copy,
 use Rattle.calculus.specs.Effects.{amount}
 use Rattle.calculus.specs.Typing.{Channel-use, Well-formed-in-turn}
 
+-- the process p passes the checks in the scope Γ
 abbrev pub Checks : Operations → Assignment → Scope → Process → Type 0
 Checks K types Γ stop = Unit {0}
 Checks K types Γ (send x ys) = (in-scope Γ x ≡ true) × All (λ y. in-scope Γ y ≡ true) ys × Channel-use K types x ys

@@ -13,6 +13,7 @@ use Rattle.calculus.specs.Types.{Name, Item, name, index, NameType, pure, publ
 use Rattle.calculus.specs.Scopes.{Scope, label-in-scope}
 use Rattle.calculus.specs.Processes.{Process, stop, send, receive, both, copy, new, test, begin, end}
 
+-- an effect gives each label an amount
 abbrev pub Effect : Type 0
 Effect = Label Name → ℕ
 
@@ -46,7 +47,7 @@ larger e f L = max (e L) (f L)
 abbrev pub full-right : Operations → Label Name → Effect
 full-right K L M = amount-if (L ≟ M) (K .full)
 
--- the name that an item stands for, once the arguments are put in
+-- the name that an item of a channel's own entry stands for, once the arguments are put in (where the type is well formed, such an item has no arrow)
 abbrev pub named : List Name → Item → Name
 named ys (name x) = x
 named ys (index u p) = getD ys p 0

@@ -3,6 +3,7 @@ use mathlib.Core.Path.{_≡_, refl, sym, _∙_, ap}
 use mathlib.Core.HLevel.{Discrete}
 use mathlib.Core.List.{List, [], _∷_, List-discrete}
 
+-- a label of items of any kind
 pub data Label (A : Type 0) : Type 0 where
   one : A → Label A
   two : A → A → Label A
@@ -32,6 +33,7 @@ of-items other (a ∷ b ∷ c ∷ []) = three a b c
 of-items other (a ∷ b ∷ c ∷ d ∷ []) = four a b c d
 of-items other (a ∷ b ∷ c ∷ d ∷ e ∷ l) = other
 
+-- a label is the label of its items
 of-items-items : {A : Type 0} (other L : Label A) → of-items other (items L) ≡ L
 of-items-items other (one a) = refl
 of-items-items other (two a b) = refl

@@ -29,6 +29,7 @@ pub record Thread : Type 0 where
   pub process : Process
   pub valuation : Valuation
 
+-- the thread of a process and a valuation
 abbrev pub thread : Process → Valuation → Thread
 thread p ρ = record { process = p; valuation = ρ }
 
@@ -40,6 +41,7 @@ Tally = Label Value → ℕ
 abbrev pub note : Label Value → Tally → Tally
 note L tally M = amount-if (L ≟ M) 1 + tally M
 
+-- a running process: its threads, and what has happened so far
 pub record Configuration : Type 0 where
   -- the threads, in no order
   pub threads : List Thread
@@ -53,6 +55,7 @@ pub record Configuration : Type 0 where
   pub begins : Tally
   pub ends : Tally
 
+-- the configuration with other threads
 abbrev pub with-threads : Configuration → List Thread → Configuration
 with-threads c ts = record { threads = ts; next = c .next; known = c .known; made = c .made; begins = c .begins; ends = c .ends }
 

@@ -9,6 +9,7 @@ use Rattle.calculus.specs.Lists.{_∈_, every}
 use Rattle.calculus.specs.Labels.{Label, items}
 use Rattle.calculus.specs.Types.{Name, Item, name, index, Entry, NameType, pure, public, channel, Assignment}
 
+-- a scope says of each name whether it may be used
 abbrev pub Scope : Type 0
 Scope = Name → Bool
 
@@ -40,10 +41,12 @@ abbrev pub Well-formed-item : Scope → (ℕ → ℕ) → Item → Type 0
 Well-formed-item Γ before (name x) = in-scope Γ x ≡ true
 Well-formed-item Γ before (index u p) = p < before u
 
+-- an entry may stand in a type
 abbrev pub Well-formed-entry : Scope → (ℕ → ℕ) → Entry → Type 0
 Well-formed-entry Γ before e = All (Well-formed-item Γ before) (items (e .label))
 
--- a type inside other channel types: the entries of a channel may speak of all its arguments, component i of the i arguments before it
+-- a type inside other channel types: it has at most four components; the entries of a channel may speak of all its arguments,
+-- component i of the i arguments before it
 abbrev pub Well-formed-inside : Scope → (ℕ → ℕ) → NameType → Type 0
 Well-formed-inside Γ before pure = Unit {0}
 Well-formed-inside Γ before public = Unit {0}

@@ -12,10 +12,11 @@ use Rattle.calculus.specs.Countings.{Operations}
 use Rattle.calculus.specs.Joins.{amount-if, join-over}
 use Rattle.calculus.specs.Labels.{Label, map-label, label-discrete}
 
--- names are numbers, and so are the values that names have in a run
+-- names are numbers
 abbrev pub Name : Type 0
 Name = ℕ
 
+-- the values that names have in a run are numbers
 abbrev pub Value : Type 0
 Value = ℕ
 
@@ -40,15 +41,17 @@ pub data NameType : Type 0 where
 abbrev pub Assignment : Type 0
 Assignment = Name → NameType
 
--- an index of the level that is filled becomes the argument at its place; any other stays
+-- putting arguments in: an index of the level that is filled becomes the argument at its place; any other stays
 abbrev pub fill-index : List Name → (level u p : ℕ) → Dec (u ≡ level) → Item
 fill-index ys level u p (yes e) = cond (ltb p (length ys)) (name (getD ys p 0)) (index u p)
 fill-index ys level u p (no e) = index u p
 
+-- arguments put into an item, for the indices of one level
 abbrev pub fill-item : List Name → ℕ → Item → Item
 fill-item ys level (name x) = name x
 fill-item ys level (index u p) = fill-index ys level u p (ℕ-discrete u level)
 
+-- arguments put into an entry
 abbrev pub fill-entry : List Name → ℕ → Entry → Entry
 fill-entry ys level e = record { label = map-label (fill-item ys level) (e .label); amount = e .amount }
 

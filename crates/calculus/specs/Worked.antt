@@ -35,6 +35,7 @@ asks = receive 1 (3 ∷ []) (new 4 (both (send 2 (3 ∷ 4 ∷ [])) (receive 4 []
 abbrev pub grants : Process
 grants = receive 2 (5 ∷ 6 ∷ []) (test 5 0 (begin (one 5) (send 6 [])) stop)
 
+-- both, as often as they are wanted, over a new channel
 abbrev pub worked : Process
 worked = new 2 (both (copy asks) (copy grants))
 
