@@ -1,19 +1,19 @@
 -- The ceiling: the amount of a process is at most a join of eight entries a node, so law five covers 1,024 nodes.
-use mathlib.Core.Path.{_≡_, refl, sym, subst}
+use mathlib.Core.Path.{sym, subst}
 use mathlib.Core.List.{List, [], _∷_, _++_}
-use Prim.Native.Nat.{ℕ, zero, suc, _+_, _*_, _≤_, _<_, max}
+use Prim.Native.Nat.{ℕ, zero, suc, _+_, _*_, _≤_, max}
 use native.Mathlib.Nat.{le-refl, le-trans}
 use native.Mathlib.Omega.{arith}
 use lib.ListN.{length, length-append}
 use Rattle.std.specs.shelf.Lists.{All}
-use Rattle.calculus.specs.Countings.{Operations, Laws, Each≤, joined}
+use Rattle.calculus.specs.Countings.{Operations, Laws, Each≤}
 use Rattle.calculus.specs.Joins.{amount-if, join-over}
 use Rattle.calculus.specs.Labels.{Label, map-label}
 use Rattle.calculus.specs.Types.{Name, Entry, NameType, pure, public, channel, Assignment}
 use Rattle.calculus.specs.Processes.{Process, stop, send, receive, both, copy, new, test, begin, end, size}
 use Rattle.calculus.specs.Effects.{_≟_, named, latent, amount}
 use Rattle.calculus.specs.Ceiling.{Entries-small, Few}
-use Rattle.calculus.specs.Theorems.{Fits-ceiling, Amounts-fit}
+use Rattle.calculus.specs.Theorems.{Amounts-fit}
 use Rattle.calculus.proofs.Joins.{if-at-most, join-monotone, left-below, right-below, lack-at-most, joined-append}
 
 each-append : (b : ℕ) (l m : List ℕ) → Each≤ b l → Each≤ b m → Each≤ b (l ++ m)

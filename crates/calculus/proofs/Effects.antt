@@ -1,17 +1,16 @@
 -- Effects: they name only names in scope, and what becomes of them once names have values.
 use mathlib.Core.Path.{_≡_, refl, sym, _∙_, ap, subst}
 use mathlib.Core.List.{List, [], _∷_, map}
-use mathlib.Core.Bool.{Bool, true, false}
-use mathlib.Core.Logic.{_⊎_, inl, inr}
-use Prim.Native.Nat.{ℕ, zero, suc, _≤_, _<_}
+use mathlib.Core.Bool.{true}
+use mathlib.Core.Logic.{inl, inr}
+use Prim.Native.Nat.{ℕ, zero, suc, _≤_}
 use native.Mathlib.Omega.{arith}
-use lib.ListN.{length, getD}
+use lib.ListN.{length}
 use Rattle.std.specs.shelf.Lists.{All}
 use Rattle.std.proofs.shelf.Elements.{all-weaker, all-map, all-getD}
 use Rattle.std.proofs.shelf.Lists.{getD-map}
 use Rattle.std.proofs.shelf.Tests.{both-ways, cases-bool}
 use Rattle.calculus.specs.Countings.{Operations, Laws}
-use Rattle.calculus.specs.Lists.{_∈_}
 use Rattle.calculus.specs.Joins.{amount-if, join-over}
 use Rattle.calculus.specs.Labels.{Label, items, map-label}
 use Rattle.calculus.specs.Types.{Name, Value, Item, name, index, Entry, NameType, pure, public, channel, Assignment}
@@ -25,7 +24,7 @@ use Rattle.calculus.proofs.Lists.{all-every}
 use Rattle.calculus.proofs.Joins.{if-zero, if-no, if-monotone, if-swap, join-zero, lack-zero, if-join, over-zero, over-monotone, over-join, over-alike, over-alike-members}
 use Rattle.calculus.proofs.Universes.{Once, along}
 use Rattle.calculus.proofs.Labels.{items-map, map-label-alike, map-label-twice, all-labels}
-use Rattle.calculus.proofs.Scopes.{small, label-names, names-new, environment-new, environment-receive}
+use Rattle.calculus.proofs.Scopes.{small, label-names, names-new, names-new-one, environment-new, environment-receive}
 use Rattle.calculus.proofs.Meanings.{carries, item-value, nothing-sent, meaning}
 
 -- the label of a well-formed entry is in scope once arguments in scope are put in
@@ -66,13 +65,9 @@ module _ (K : Operations) (W : Laws K) where
   amount-within types (both p q) Γ c k L n = join-zero K W _ _ (amount-within types p Γ c (k .0) L n) (amount-within types q Γ c (k .1) L n)
   amount-within types (copy p) Γ c k L n = amount-within types p Γ c (k .0) L n
   amount-within types (new x p) Γ c k L n = elim (cases-bool (label-in-scope (extend (x ∷ []) Γ) L)) [
-    | inl s ↦ let z = names-new (x ∷ []) Γ L n s in k .2 L (only (z .0) (z .1) (z .2))
+    | inl s ↦ k .2 L (names-new-one x Γ L n s)
     | inr f ↦ amount-within types p (extend (x ∷ []) Γ) (environment-new types x Γ c (k .1)) (k .3) L f
   ]
-    where
-      only : (z : Name) → z ∈ (x ∷ []) → z ∈ items L → x ∈ items L
-      only z (inl e) m = subst (λ y. y ∈ items L) e m
-      only z (inr h) m = elim h [ ]
   amount-within types (test x y p q) Γ c k L n = let a = amount-within types p Γ c (k .2) L n in let b = amount-within types q Γ c (k .3) L n in omega arith
   amount-within types (begin l p) Γ c k L n = lack-zero K W _ _ (amount-within types p Γ c (k .1) L n)
   amount-within types (end l p) Γ c k L n = join-zero K W _ _ (amount-within types p Γ c (k .1) L n) (full-right-within Γ l (k .0) L n)

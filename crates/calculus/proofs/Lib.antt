@@ -1,7 +1,9 @@
+-- The proofs, in the order in which they build on one another.
 pub mod Lists
 pub mod Joins
 pub mod Universes
 pub mod Labels
+pub mod Orders
 pub mod Scopes
 pub mod Meanings
 pub mod Effects

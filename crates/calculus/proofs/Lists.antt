@@ -46,6 +46,10 @@ member-of-front (suc i) [] x m = elim m [ ]
 member-of-front (suc i) (y ∷ l) x (inl e) = inl e
 member-of-front (suc i) (y ∷ l) x (inr m) = inr (member-of-front i l x m)
 
+pub only-member : {A : Type 0} (x y : A) → x ∈ (y ∷ []) → x ≡ y
+only-member x y (inl e) = e
+only-member x y (inr m) = elim m [ ]
+
 pub member-cases : {A : Type 0} (x : A) (l m : List A) → x ∈ (l ++ m) → (x ∈ l) ⊎ (x ∈ m)
 member-cases x [] m h = inr h
 member-cases x (y ∷ l) m (inl e) = inl (inl e)

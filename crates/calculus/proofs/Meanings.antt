@@ -1,7 +1,7 @@
 -- Meanings: the type of a value. Once every name has a value, a channel type is a function of the values sent, so that
 -- putting arguments in is application, and equal types have equal meanings.
 use mathlib.Core.Path.{_≡_, refl, sym, _∙_, ap, subst}
-use mathlib.Core.List.{List, [], _∷_, map}
+use mathlib.Core.List.{List, [], map}
 use mathlib.Core.Bool.{Bool, true, false, cond}
 use Prim.Native.Nat.{ℕ, zero, suc, _≤_, _<_}
 use native.Mathlib.Nat.{le-trans}
@@ -15,9 +15,9 @@ use Rattle.std.proofs.shelf.Lists.{getD-map}
 use Rattle.std.proofs.shelf.Tests.{ltb-true, lt-ltb, cond-true}
 use Rattle.calculus.specs.Countings.{Operations, Laws}
 use Rattle.calculus.specs.Joins.{amount-if, join-over}
-use Rattle.calculus.specs.Labels.{Label, items, map-label}
+use Rattle.calculus.specs.Labels.{Label, map-label}
 use Rattle.calculus.specs.Types.{Name, Value, Item, name, index, Entry, NameType, pure, public, channel, Assignment, fill-index, fill-item, fill-entry, fill-type, required, entry-label-discrete, Same-type, same-pure, same-public, same-channel}
-use Rattle.calculus.specs.Scopes.{Scope, in-scope, push, Well-formed-item, Well-formed-entry, Well-formed-inside, Well-formed, outermost}
+use Rattle.calculus.specs.Scopes.{Scope, in-scope, push, Well-formed-item, Well-formed-entry, Well-formed-inside, Well-formed}
 use Rattle.calculus.specs.Effects.{_≟_}
 use Rattle.calculus.specs.Typing.{Takes, Channel-use}
 use Rattle.calculus.specs.Reduction.{Valuation}

@@ -1,7 +1,7 @@
 -- Preservation: what holds of the configurations of a run of an accepted process, and that every reduction keeps it.
-use mathlib.Core.Path.{_≡_, refl, sym, _∙_, ap, fun-ext, subst}
+use mathlib.Core.Path.{_≡_, sym, _∙_, ap, fun-ext, subst}
 use mathlib.Core.List.{List, [], _∷_, map, _++_}
-use mathlib.Core.Logic.{_⊎_, inl, inr}
+use mathlib.Core.Logic.{inl, inr}
 use Prim.Native.Nat.{ℕ, suc, _≤_, _<_}
 use native.Mathlib.Nat.{le-refl, le-trans, le-max-left, le-max-right}
 use native.Mathlib.Omega.{arith}
@@ -13,7 +13,7 @@ use Rattle.calculus.specs.Lists.{_∈_, Removal}
 use Rattle.calculus.specs.Joins.{amount-if, join-over, rights}
 use Rattle.calculus.specs.Labels.{Label, map-label}
 use Rattle.calculus.specs.Types.{Name, Value, public, Assignment}
-use Rattle.calculus.specs.Processes.{Process, stop, send, receive, both, copy, new, test, begin, end}
+use Rattle.calculus.specs.Processes.{Process, send, receive, both, copy, new, test, begin, end}
 use Rattle.calculus.specs.Effects.{_≟_, full-right, amount}
 use Rattle.calculus.specs.Reduction.{Valuation, bind, Thread, thread, note, Configuration, Reduction, step-stop, step-both, step-copy, step-new, step-equal, step-different, step-begin, step-end, meet, hear, feed, invent}
 use Rattle.calculus.proofs.Lists.{place-of, member-cases, removal-all, insertion-all}

@@ -1,8 +1,7 @@
 -- Safety: the invariant holds at the start, and a configuration of which it holds is safe.
 use mathlib.Core.Path.{_≡_, refl, sym, _∙_, ap, subst}
-use mathlib.Core.List.{List, [], _∷_}
-use mathlib.Core.Bool.{true}
-use Prim.Native.Nat.{ℕ, suc, _≤_, _<_}
+use mathlib.Core.List.{List}
+use Prim.Native.Nat.{ℕ, _≤_}
 use native.Mathlib.Nat.{le-refl, le-trans}
 use lib.ListN.{length}
 use Rattle.std.specs.shelf.Lists.{All}
@@ -12,7 +11,7 @@ use Rattle.calculus.specs.Lists.{_∈_, Removal}
 use Rattle.calculus.specs.Joins.{join-over, rights}
 use Rattle.calculus.specs.Labels.{Label, map-label}
 use Rattle.calculus.specs.Types.{Name, Value, NameType, pure, public, channel, Assignment}
-use Rattle.calculus.specs.Scopes.{Scope, in-scope, Well-formed, Well-formed-environment}
+use Rattle.calculus.specs.Scopes.{Scope, Well-formed, Well-formed-environment}
 use Rattle.calculus.specs.Processes.{Process, send, receive, end}
 use Rattle.calculus.specs.Effects.{_≟_, empty, full-right, amount}
 use Rattle.calculus.specs.Typing.{Takes}

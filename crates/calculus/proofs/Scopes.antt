@@ -1,11 +1,11 @@
 -- Scopes: names and labels in a scope that grows, and types that stay well formed in it.
 use mathlib.Core.Path.{_≡_, refl, sym, _∙_, ap, subst}
 use mathlib.Core.List.{List, [], _∷_}
-use mathlib.Core.Bool.{Bool, true, false, cond, _&&_}
+use mathlib.Core.Bool.{Bool, true, false, cond}
 use mathlib.Core.Logic.{_⊎_, inl, inr}
 use Prim.Native.Nat.{ℕ, _<_}
 use lib.Dec.{eqb, ltb}
-use lib.ListN.{length, getD, take}
+use lib.ListN.{getD, take}
 use Rattle.std.specs.shelf.Lists.{All}
 use Rattle.std.proofs.shelf.Elements.{all-weaker}
 use Rattle.std.proofs.shelf.Tests.{and-parts, and-from, and-cases, both-ways, cases-bool, ltb-true, lt-ltb, eqb-true, eq-eqb}
@@ -15,7 +15,7 @@ use Rattle.calculus.specs.Types.{Name, Item, name, index, NameType, pure, publ
 use Rattle.calculus.specs.Scopes.{Scope, in-scope, label-in-scope, extend, Fresh, push, Well-formed-item, Well-formed-inside, Well-formed, outermost, Well-formed-environment}
 use Rattle.calculus.specs.Effects.{Effect, Within}
 use Rattle.calculus.specs.Typing.{Well-formed-in-turn}
-use Rattle.calculus.proofs.Lists.{all-member, every-all, all-every, place-of, member-of-front}
+use Rattle.calculus.proofs.Lists.{all-member, every-all, all-every, place-of, only-member, member-of-front}
 
 -- the parts of being in scope
 pub small : (Γ : Scope) (x : Name) → in-scope Γ x ≡ true → x < 64
@@ -85,19 +85,14 @@ names-new zs Γ L n s = find (items L) n (label-names (extend zs Γ) L s)
       ]
     ]
 
+pub names-new-one : (x : Name) (Γ : Scope) (L : Label Name) → label-in-scope Γ L ≡ false → label-in-scope (extend (x ∷ []) Γ) L ≡ true → x ∈ items L
+names-new-one x Γ L n s = let z = names-new (x ∷ []) Γ L n s in subst (λ y. y ∈ items L) (only-member (z .0) x (z .1)) (z .2)
+
 -- a label that names a name out of scope is out of scope
 pub names-absent : (Γ : Scope) (z : Name) (L : Label Name) → Γ z ≡ false → z ∈ items L → label-in-scope Γ L ≡ false
 names-absent Γ z L n m = elim (cases-bool (label-in-scope Γ L)) [
   | inl s ↦ absurd (both-ways (Γ z) n (present Γ z (all-member (λ x. in-scope Γ x ≡ true) (items L) (label-names Γ L s) z m)))
   | inr f ↦ f
-]
-
--- what is within a scope is within a wider one
-pub within-wider : (zs : List Name) (Γ : Scope) (e : Effect) → Within Γ e → Within (extend zs Γ) e
-within-wider zs Γ e w L n = elim (cases-bool (label-in-scope Γ L)) [
-  | inl s ↦ absurd (both-ways (label-in-scope (extend zs Γ) L) n
-      (all-every (in-scope (extend zs Γ)) (items L) (all-weaker _ _ (λ x t. in-scope-extend zs Γ x t) (items L) (label-names Γ L s))))
-  | inr f ↦ w L f
 ]
 
 -- a type that is well formed in a scope is so in a wider one
@@ -123,11 +118,7 @@ module _ (types : Assignment) where
 
   pub environment-new : (x : Name) (Γ : Scope) → Well-formed-environment types Γ → Well-formed Γ (types x) → Well-formed-environment types (extend (x ∷ []) Γ)
   environment-new x Γ c w = environment-extend (x ∷ []) Γ c (λ z m.
-      subst (λ y. Well-formed (extend (x ∷ []) Γ) (types y)) (sym (only z m)) (well-formed-wider Γ (extend (x ∷ []) Γ) (in-scope-extend (x ∷ []) Γ) (types x) outermost w))
-    where
-      only : (z : Name) → z ∈ (x ∷ []) → z ≡ x
-      only z (inl e) = e
-      only z (inr m) = elim m [ ]
+      subst (λ y. Well-formed (extend (x ∷ []) Γ) (types y)) (sym (only-member z x m)) (well-formed-wider Γ (extend (x ∷ []) Γ) (in-scope-extend (x ∷ []) Γ) (types x) outermost w))
 
   pub environment-receive : (zs : List Name) (Γ : Scope) → Well-formed-environment types Γ → Well-formed-in-turn types Γ zs →
       Well-formed-environment types (extend zs Γ)

@@ -2,13 +2,12 @@
 use mathlib.Core.Path.{_≡_, refl, sym, _∙_, ap, ap₂, subst}
 use mathlib.Core.List.{List, [], _∷_, map}
 use mathlib.Core.Bool.{true, cond}
-use mathlib.Core.Logic.{_⊎_, inl, inr}
+use mathlib.Core.Logic.{inl, inr}
 use Prim.Native.Nat.{ℕ, suc, _≤_, _<_}
 use native.Mathlib.Nat.{le-refl}
 use native.Mathlib.Omega.{arith}
 use lib.Dec.{eqb}
 use lib.ListN.{length, getD}
-use Rattle.std.specs.shelf.Lists.{All}
 use Rattle.std.proofs.shelf.Elements.{all-getD}
 use Rattle.std.proofs.shelf.Lists.{getD-map}
 use Rattle.std.proofs.shelf.Tests.{cases-bool, eqb-true, eq-eqb}
@@ -21,9 +20,9 @@ use Rattle.calculus.specs.Processes.{Process, send, receive, new}
 use Rattle.calculus.specs.Effects.{latent, amount}
 use Rattle.calculus.specs.Checks.{Checks}
 use Rattle.calculus.specs.Reduction.{Valuation, bind, Thread, thread}
-use Rattle.calculus.proofs.Lists.{all-from-members, place-of}
+use Rattle.calculus.proofs.Lists.{all-from-members, place-of, only-member}
 use Rattle.calculus.proofs.Scopes.{in-scope-cases, in-scope-extend, bound-in-scope, not-bound, well-formed-wider, environment-new, environment-receive}
-use Rattle.calculus.proofs.Meanings.{ValueType, pure-value, public-value, channel-value, component, carries, nothing-sent, meaning, meaning-local, argument-meaning}
+use Rattle.calculus.proofs.Meanings.{ValueType, public-value, component, carries, nothing-sent, meaning, meaning-local, argument-meaning}
 use Rattle.calculus.proofs.Effects.{amount-within, instance, instance-monotone, instance-join, instance-local, instance-latent}
 use Rattle.calculus.proofs.Valuations.{bind-here, bind-other, bind-all}
 
@@ -165,10 +164,6 @@ module _ (K : Operations) (W : Laws K) (types : Assignment) where
       pub new-typed : Well-typed K types (with-type Θ n (meaning K (types x) (bind (x ∷ []) (n ∷ []) ρ))) (suc n) (thread p (bind (x ∷ []) (n ∷ []) ρ))
       new-typed = record { scope = extend (x ∷ []) (f .scope); checked = f .checked .3; environment = environment-new types x (f .scope) (f .environment) (f .checked .1); values = both }
         where
-          only : (y : Name) → y ∈ (x ∷ []) → y ≡ x
-          only y (inl e) = e
-          only y (inr m) = elim m [ ]
-
           new-value : (y : Name) → y ≡ x → Has-type Θ′ (suc n) (made y) (meaning K (types y) made)
           new-value y e =
               subst (λ y. Has-type Θ′ (suc n) (made y) (meaning K (types y) made)) (sym e)
@@ -176,7 +171,7 @@ module _ (K : Operations) (W : Laws K) (types : Assignment) where
 
           both : (y : Name) → in-scope (extend (x ∷ []) (f .scope)) y ≡ true → Has-type Θ′ (suc n) (made y) (meaning K (types y) made)
           both y t = elim (in-scope-cases (x ∷ []) (f .scope) y t) [
-            | inl m ↦ new-value y (only y m)
+            | inl m ↦ new-value y (only-member y x m)
             | inr s ↦ let v = has-type-later Θ n (meaning K (types x) made) (ρ y) _ (f .values y s) in
                 subst (λ w. Has-type Θ′ (suc n) w (meaning K (types y) made)) (new-old y s)
                 (v .0, v .1 ∙ meaning-local K W (f .scope) ρ made new-old (types y) outermost nothing-sent (f .environment y s))

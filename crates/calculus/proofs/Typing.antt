@@ -1,16 +1,13 @@
 -- The rules and the checks agree: a process has an effect exactly when it passes the checks and the effect is at least its amount.
 use mathlib.Core.Path.{_≡_, refl, sym, _∙_, ap₂, subst}
-use mathlib.Core.List.{List, [], _∷_}
-use mathlib.Core.Bool.{true, false}
-use mathlib.Core.Logic.{_⊎_, inl, inr}
+use mathlib.Core.List.{[], _∷_}
+use mathlib.Core.Logic.{inl, inr}
 use Prim.Native.Nat.{ℕ, zero, suc, _≤_, _<_}
 use native.Mathlib.Nat.{le-refl, le-trans}
 use native.Mathlib.Omega.{arith}
 use Rattle.std.proofs.shelf.Tests.{cases-bool}
 use Rattle.calculus.specs.Countings.{Operations, Laws}
-use Rattle.calculus.specs.Lists.{_∈_}
-use Rattle.calculus.specs.Labels.{Label, items}
-use Rattle.calculus.specs.Types.{Name, Assignment}
+use Rattle.calculus.specs.Types.{Assignment}
 use Rattle.calculus.specs.Scopes.{Scope, label-in-scope, extend, Well-formed-environment}
 use Rattle.calculus.specs.Processes.{Process, stop, send, receive, both, copy, new, test, begin, end, size}
 use Rattle.calculus.specs.Effects.{Effect, _⊑_, Within, join-effects, full-right, amount}
@@ -18,7 +15,7 @@ use Rattle.calculus.specs.Typing.{Rule, subsumption, stop-rule, send-rule, rec
 use Rattle.calculus.specs.Checks.{Checks}
 use Rattle.calculus.specs.Theorems.{Agreement, Typing-agrees}
 use Rattle.calculus.proofs.Joins.{join-monotone, left-below, join-zero}
-use Rattle.calculus.proofs.Scopes.{fresh-name, names-new, names-absent, environment-new, environment-receive}
+use Rattle.calculus.proofs.Scopes.{fresh-name, names-new-one, names-absent, environment-new, environment-receive}
 use Rattle.calculus.proofs.Effects.{latent-within, full-right-within, amount-within}
 
 size-positive : (p : Process) → 1 ≤ size p
@@ -73,14 +70,10 @@ module _ (K : Operations) (W : Laws K) (types : Assignment) where
           (fr, wf, λ L m. let b = a .1 L in let d = n L m in omega arith, a .0),
           a .1,
           λ L o. elim (cases-bool (label-in-scope (extend (y ∷ []) Γ) L)) [
-            | inl s ↦ let z = names-new (y ∷ []) Γ L o s in n L (only L (z .0) (z .1) (z .2))
+            | inl s ↦ n L (names-new-one y Γ L o s)
             | inr f ↦ a .2 L f
           ],
         )
-      where
-        only : (L : Label Name) (z : Name) → z ∈ (y ∷ []) → z ∈ items L → y ∈ items L
-        only L z (inl e) m = subst (λ v. v ∈ items L) e m
-        only L z (inr h) m = elim h [ ]
     rule-sound x c (test-rule {Γ = Γ} {p = p} {q = q} {e = e} {f = f} s t h k) =
         let a = x p (omega arith) Γ c e .0 h in let b = x q (omega arith) Γ c f .0 k in
         ((s, t, a .0, b .0), λ L. let u = a .1 L in let v = b .1 L in omega arith, λ L n. let u = a .2 L n in let v = b .2 L n in omega arith)

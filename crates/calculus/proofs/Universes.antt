@@ -9,8 +9,8 @@ use Rattle.std.specs.shelf.Lists.{All}
 use Rattle.calculus.specs.Countings.{Operations, Laws}
 use Rattle.calculus.specs.Lists.{_∈_}
 use Rattle.calculus.specs.Joins.{amount-if, join-over}
-use Rattle.calculus.proofs.Lists.{all-from-members, member-left, member-right}
-use Rattle.calculus.proofs.Joins.{if-zero, if-yes, if-no, if-swap, neutral-left, over-alike, over-alike-members, over-swap, over-if}
+use Rattle.calculus.proofs.Lists.{member-left, member-right}
+use Rattle.calculus.proofs.Joins.{if-yes, if-no, if-swap, neutral-left, over-alike, over-alike-members, over-swap, over-if}
 
 -- x stands in U once, by what a join over U makes of it
 abbrev pub Once : {A : Type 0} → Operations → Discrete A → List A → A → Type 0
@@ -69,9 +69,9 @@ module _ (K : Operations) (W : Laws K) {A : Type 0} (same : Discrete A) where
       ∙ over-alike K W U (λ x. over-alike K W rows (λ r. if-swap (same (label r) x) (d x) (amount r))
       ∙ sym (over-if K W (d x) rows (λ r. amount-if (same (label r) x) (amount r))))
 
-  all-labels : {R : Type 0} (label : R → A) (P : A → Type 0) (rows : List R) → ((x : A) → x ∈ map label rows → P x) → All (λ r. P (label r)) rows
-  all-labels label P [] h = tt
-  all-labels label P (r ∷ rows) h = (h (label r) (inl refl), all-labels label P rows (λ x m. h x (inr m)))
+  all-rows : {R : Type 0} (label : R → A) (P : A → Type 0) (rows : List R) → ((x : A) → x ∈ map label rows → P x) → All (λ r. P (label r)) rows
+  all-rows label P [] h = tt
+  all-rows label P (r ∷ rows) h = (h (label r) (inl refl), all-rows label P rows (λ x m. h x (inr m)))
 
   -- two lists of rows with equal amounts at every label have equal amounts wherever their labels are sent
   pub sent-alike : {R : Type 0} (label : R → A) (amount : R → ℕ) (a b : List R) →
@@ -80,6 +80,6 @@ module _ (K : Operations) (W : Laws K) {A : Type 0} (same : Discrete A) where
       join-over K a (λ r. amount-if (d (label r)) (amount r)) ≡ join-over K b (λ r. amount-if (d (label r)) (amount r))
   sent-alike label amount a b h d =
       let u = universe (map label a ++ map label b) in
-      along a label amount (u .all) (all-labels label (Once K same (u .all)) a (λ x m. u .once x (member-left x (map label a) (map label b) m))) d
+      along a label amount (u .all) (all-rows label (Once K same (u .all)) a (λ x m. u .once x (member-left x (map label a) (map label b) m))) d
       ∙ over-alike K W (u .all) (λ x. ap (amount-if (d x)) (h x))
-      ∙ sym (along b label amount (u .all) (all-labels label (Once K same (u .all)) b (λ x m. u .once x (member-right x (map label a) (map label b) m))) d)
+      ∙ sym (along b label amount (u .all) (all-rows label (Once K same (u .all)) b (λ x m. u .once x (member-right x (map label a) (map label b) m))) d)

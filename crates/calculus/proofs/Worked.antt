@@ -1,8 +1,8 @@
 -- The worked process is accepted under every counting that keeps the laws, and a run of it reaches an end.
 use mathlib.Core.Path.{_≡_, refl, sym, _∙_, ap, subst}
 use mathlib.Core.List.{List, [], _∷_}
-use mathlib.Core.Bool.{true, false}
-use mathlib.Core.Logic.{_⊎_, inl, inr}
+use mathlib.Core.Bool.{true}
+use mathlib.Core.Logic.{inl, inr}
 use Prim.Native.Nat.{ℕ, zero, suc, _+_, _≤_, _<_}
 use native.Mathlib.Nat.{le-refl}
 use native.Mathlib.Decide.{ℕ-discrete}
@@ -14,20 +14,19 @@ use Rattle.calculus.specs.Countings.{Operations, Laws}
 use Rattle.calculus.specs.Lists.{_∈_, here, there}
 use Rattle.calculus.specs.Joins.{amount-if, rights}
 use Rattle.calculus.specs.Labels.{Label, one}
-use Rattle.calculus.specs.Types.{Name, Value, Item, name, index, public, pure, NameType, fill-index, required, entries-at, Same-type, same-public, same-channel}
-use Rattle.calculus.specs.Scopes.{Scope, in-scope, extend, Well-formed, Well-formed-inside, push, Well-formed-environment}
-use Rattle.calculus.specs.Processes.{Process, stop, send, receive, both, copy, new, test, begin, end}
+use Rattle.calculus.specs.Types.{Name, Value, Item, name, index, public, pure, fill-index, required, entries-at, Same-type, same-public, same-channel}
+use Rattle.calculus.specs.Scopes.{Scope, in-scope, extend, Well-formed, Well-formed-inside, push}
+use Rattle.calculus.specs.Processes.{stop, send, receive, both, test, begin, end}
 use Rattle.calculus.specs.Effects.{_≟_, empty, amount}
 use Rattle.calculus.specs.Typing.{Channel-use, Well-formed-in-turn}
 use Rattle.calculus.specs.Checks.{Checks}
-use Rattle.calculus.specs.Reduction.{Reachable, at-once, after, step-stop, step-both, step-copy, step-new, step-equal, step-different, step-begin, step-end, meet, hear, feed, invent}
+use Rattle.calculus.specs.Reduction.{at-once, after, step-both, step-copy, step-new, step-equal, step-begin, step-end, meet, feed}
 use Rattle.calculus.specs.Safety.{Accepted, Start}
 use Rattle.calculus.specs.Built.{parts, once}
 use Rattle.calculus.specs.Worked.{worked-free, acknowledges, worked-types, asks, grants, worked, worked-start, Works}
 use Rattle.calculus.specs.Theorems.{Nothing-empty}
 use Rattle.calculus.proofs.Joins.{if-yes, neutral-left, join-zero, lack-zero, lack-self}
 use Rattle.calculus.proofs.Typing.{exact}
-use Rattle.calculus.proofs.Safety.{runs-safe}
 use Rattle.calculus.proofs.Built.{parts-laws, once-laws}
 
 -- an index of the level that is filled becomes the argument

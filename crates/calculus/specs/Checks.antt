@@ -1,6 +1,6 @@
 -- The checks: what is asked of a process node by node, with the least amount in place of a derivation.
 use mathlib.Core.Path.{_≡_}
-use mathlib.Core.List.{List, [], _∷_}
+use mathlib.Core.List.{[], _∷_}
 use mathlib.Core.Bool.{true}
 use Rattle.std.specs.shelf.Lists.{All}
 use Rattle.calculus.specs.Countings.{Operations}

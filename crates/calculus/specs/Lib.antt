@@ -1,7 +1,9 @@
+-- The definitions and the statements, in the order in which they build on one another.
 pub mod Countings
 pub mod Lists
 pub mod Joins
 pub mod Labels
+pub mod Orders
 pub mod Types
 pub mod Scopes
 pub mod Processes

@@ -1,8 +1,9 @@
--- The theorems: that the rules and the checks agree, that runs are safe, that no join passes the ceiling, and that nothing of this is empty.
+-- The theorems: that labels are ordered, that the rules and the checks agree, that runs are safe, that no join passes the ceiling, and that nothing of this is empty.
 use mathlib.Core.Path.{_≡_}
 use Prim.Native.Nat.{ℕ, _*_, _≤_, _<_}
 use Rattle.calculus.specs.Countings.{Operations, Laws}
 use Rattle.calculus.specs.Labels.{Label}
+use Rattle.calculus.specs.Orders.{Strict-order, Label-before}
 use Rattle.calculus.specs.Types.{Name, Assignment}
 use Rattle.calculus.specs.Scopes.{Scope, Well-formed-environment}
 use Rattle.calculus.specs.Processes.{Process, size}
@@ -14,6 +15,10 @@ use Rattle.calculus.specs.Safety.{Accepted, Start, Safe}
 use Rattle.calculus.specs.Ceiling.{Entries-small, Few}
 use Rattle.calculus.specs.Built.{parts, once}
 use Rattle.calculus.specs.Worked.{Works}
+
+-- labels of names, and labels of values, stand in one strict order
+abbrev pub Labels-ordered : Type 0
+Labels-ordered = Strict-order (Label-before _<_)
 
 -- what is said of a process in a scope
 pub record Agreement (K : Operations) (types : Assignment) (Γ : Scope) (p : Process) : Type 0 where

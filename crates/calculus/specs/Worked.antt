@@ -1,12 +1,11 @@
 -- A worked process: a permission for whatever the outsider asks, acknowledged on a channel whose type depends on what is asked.
 use mathlib.Core.Path.{_≡_}
-use mathlib.Core.List.{List, [], _∷_}
-use Prim.Native.Nat.{ℕ}
+use mathlib.Core.List.{[], _∷_}
 use lib.Dec.{ltb}
 use lib.ListN.{getD}
 use Rattle.calculus.specs.Countings.{Operations, Laws}
-use Rattle.calculus.specs.Labels.{Label, one}
-use Rattle.calculus.specs.Types.{Name, Value, Item, name, index, Entry, NameType, pure, public, channel, Assignment}
+use Rattle.calculus.specs.Labels.{one}
+use Rattle.calculus.specs.Types.{Item, name, index, NameType, pure, public, channel, Assignment}
 use Rattle.calculus.specs.Scopes.{Scope}
 use Rattle.calculus.specs.Processes.{Process, stop, send, receive, both, copy, new, test, begin, end}
 use Rattle.calculus.specs.Reduction.{thread, Configuration, Reachable}

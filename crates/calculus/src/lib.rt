@@ -2,7 +2,14 @@
 //!
 //! The definitions and the statements stand in `specs/`, the proofs in `proofs/`. Each function here answers 0;
 //! what it is for stands in its contract, a theorem.
-ghost use Rattle.calculus.specs.Theorems.{Typing-agrees, Runs-safe, Amounts-fit, Nothing-empty};
+ghost use Rattle.calculus.specs.Theorems.{Labels-ordered, Typing-agrees, Runs-safe, Amounts-fit, Nothing-empty};
+
+/// Labels stand in one strict order, so that there is a first among the labels at fault.
+pub fn labels_ordered() -> u8
+    ensures { λ _. ⌜ Labels-ordered ⌝ }
+{
+    0
+}
 
 /// The rules derive an effect for a process exactly when the checks accept it, and the least amount is the least effect that they derive.
 pub fn typing_agrees() -> u8
