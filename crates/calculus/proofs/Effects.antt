@@ -10,11 +10,12 @@ use Rattle.std.specs.shelf.Lists.{All}
 use Rattle.std.proofs.shelf.Elements.{all-weaker, all-map, all-getD}
 use Rattle.std.proofs.shelf.Lists.{getD-map}
 use Rattle.std.proofs.shelf.Tests.{both-ways, cases-bool}
+use Rattle.calculus.specs.Lists.{extend}
 use Rattle.calculus.specs.Countings.{Operations, Laws}
 use Rattle.calculus.specs.Joins.{amount-if, join-over}
 use Rattle.calculus.specs.Labels.{Label, items, map-label}
 use Rattle.calculus.specs.Types.{Name, Value, Item, name, index, Entry, NameType, pure, public, channel, Assignment}
-use Rattle.calculus.specs.Scopes.{Scope, in-scope, label-in-scope, extend, push, Well-formed-item, Well-formed-entry, Well-formed, outermost, Well-formed-environment}
+use Rattle.calculus.specs.Scopes.{Scope, in-scope, label-in-scope, push, Well-formed-item, Well-formed-entry, Well-formed, outermost, Well-formed-environment}
 use Rattle.calculus.specs.Processes.{Process, stop, send, receive, both, copy, new, test, begin, end}
 use Rattle.calculus.specs.Effects.{Effect, _≟_, empty, _⊑_, Within, join-effects, full-right, named, latent, amount}
 use Rattle.calculus.specs.Typing.{Takes}

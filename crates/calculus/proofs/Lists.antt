@@ -50,11 +50,6 @@ pub only-member : {A : Type 0} (x y : A) → x ∈ (y ∷ []) → x ≡ y
 only-member x y (inl e) = e
 only-member x y (inr m) = elim m [ ]
 
-pub member-cases : {A : Type 0} (x : A) (l m : List A) → x ∈ (l ++ m) → (x ∈ l) ⊎ (x ∈ m)
-member-cases x [] m h = inr h
-member-cases x (y ∷ l) m (inl e) = inl (inl e)
-member-cases x (y ∷ l) m (inr h) = elim (member-cases x l m h) [ inl k ↦ inl (inr k) | inr k ↦ inr k ]
-
 pub member-left : {A : Type 0} (x : A) (l m : List A) → x ∈ l → x ∈ (l ++ m)
 member-left x [] m h = elim h [ ]
 member-left x (y ∷ l) m (inl e) = inl e

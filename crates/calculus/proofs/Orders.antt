@@ -5,7 +5,7 @@ use mathlib.Core.Logic.{_⊎_, inl, inr}
 use Prim.Native.Nat.{ℕ, _<_}
 use native.Mathlib.Decide.{decLt}
 use native.Mathlib.Omega.{arith}
-use Rattle.calculus.specs.Labels.{Label, items, items-determine}
+use Rattle.calculus.specs.Labels.{items, items-determine}
 use Rattle.calculus.specs.Orders.{Strict-order, Items-before, Label-before}
 use Rattle.calculus.specs.Theorems.{Labels-ordered}
 

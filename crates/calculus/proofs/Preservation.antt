@@ -1,6 +1,7 @@
 -- Preservation: what holds of the configurations of a run of an accepted process, and that every reduction keeps it.
 use mathlib.Core.Path.{_≡_, sym, _∙_, ap, fun-ext, subst}
-use mathlib.Core.List.{List, [], _∷_, map, _++_}
+use mathlib.Core.List.{List, [], _∷_, map}
+use mathlib.Core.Bool.{true}
 use mathlib.Core.Logic.{inl, inr}
 use Prim.Native.Nat.{ℕ, suc, _≤_, _<_}
 use native.Mathlib.Nat.{le-refl, le-trans, le-max-left, le-max-right}
@@ -9,15 +10,16 @@ use lib.ListN.{length, getD, length-map}
 use Rattle.std.specs.shelf.Lists.{All}
 use Rattle.std.proofs.shelf.Elements.{all-weaker, all-getD}
 use Rattle.calculus.specs.Countings.{Operations, Laws}
-use Rattle.calculus.specs.Lists.{_∈_, Removal}
+use Rattle.calculus.specs.Lists.{extend, Removal}
 use Rattle.calculus.specs.Joins.{amount-if, join-over, rights}
 use Rattle.calculus.specs.Labels.{Label, map-label}
 use Rattle.calculus.specs.Types.{Name, Value, public, Assignment}
 use Rattle.calculus.specs.Processes.{Process, send, receive, both, copy, new, test, begin, end}
 use Rattle.calculus.specs.Effects.{_≟_, full-right, amount}
 use Rattle.calculus.specs.Reduction.{Valuation, bind, Thread, thread, note, Configuration, Reduction, step-stop, step-both, step-copy, step-new, step-equal, step-different, step-begin, step-end, meet, hear, feed, invent}
-use Rattle.calculus.proofs.Lists.{place-of, member-cases, removal-all, insertion-all}
+use Rattle.calculus.proofs.Lists.{place-of, only-member, removal-all, insertion-all}
 use Rattle.calculus.proofs.Joins.{neutral-left, join-monotone, join-cross, over-removal, rights-more}
+use Rattle.calculus.proofs.Scopes.{extend-cases}
 use Rattle.calculus.proofs.Meanings.{ValueType, public-value, component, carries, meaning}
 use Rattle.calculus.proofs.Effects.{instance, instance-monotone, instance-join, instance-full-right}
 use Rattle.calculus.proofs.Threads.{with-type, with-type-old, with-type-new, Has-type, has-type-later, public-meaning, Well-typed, cost, typed-next, typed-later, send-cost, send-values, receive-cost, receive-typed, new-cost, new-typed}
@@ -34,7 +36,7 @@ module _ (K : Operations) (W : Laws K) (types : Assignment) where
     pub typed : All (Well-typed K types Θ (c .next)) (c .threads)
     -- what the threads need still and what was ended is at most what was begun
     pub paid : (M : Label Value) → K .join (join-over K (c .threads) (cost K W types M)) (rights K (c .ends M)) ≤ rights K (c .begins M)
-    pub known-public : (v : Value) → v ∈ c .known → Has-type Θ (c .next) v public-value
+    pub known-public : (v : Value) → c .known v ≡ true → Has-type Θ (c .next) v public-value
     pub made-well : Made-well types Θ (c .next) (c .made)
 
   made-later : (Θ : Value → ValueType) (n : Value) (u : ValueType) (made : List (Value × Name)) → Made-well types Θ n made → Made-well types (with-type Θ n u) (suc n) made
@@ -116,19 +118,21 @@ module _ (K : Operations) (W : Laws K) (types : Assignment) where
         (i .paid M))
 
     -- what is heard on a public channel is public
-    heard-public : {x : Name} {ys : List Name} {σ : Valuation} {r : List Thread} → Removal (thread (send x ys) σ) (c .threads) r → σ x ∈ c .known →
-        (v : Value) → v ∈ (map σ ys ++ c .known) → Has-type (i .Θ) (c .next) v public-value
-    heard-public {x} {ys} {σ} k m v h = elim (member-cases v (map σ ys) (c .known) h) [
+    heard-public : {x : Name} {ys : List Name} {σ : Valuation} {r : List Thread} → Removal (thread (send x ys) σ) (c .threads) r → c .known (σ x) ≡ true →
+        (v : Value) → extend (map σ ys) (c .known) v ≡ true → Has-type (i .Θ) (c .next) v public-value
+    heard-public {x} {ys} {σ} k m v h = elim (extend-cases (map σ ys) (c .known) v h) [
       | inl a ↦ let j = place-of 0 v (map σ ys) a in
           let s = send-values K W types (i .Θ) (c .next) x ys σ (taken k .0) (j .0) (subst (λ (b : ℕ). j .0 < b) (length-map ys σ) (j .1)) in
           subst (λ u. Has-type (i .Θ) (c .next) u public-value) (j .2) (s .0, s .1 ∙ ap (λ t. component t (j .0) (map σ ys)) (i .known-public (σ x) m .1))
       | inr b ↦ i .known-public v b
     ]
 
-    invented-public : (v : Value) → v ∈ (c .next ∷ c .known) → Has-type (with-type (i .Θ) (c .next) public-value) (suc (c .next)) v public-value
-    invented-public v (inl e) =
-        subst (λ u. Has-type (with-type (i .Θ) (c .next) public-value) (suc (c .next)) u public-value) (sym e) (omega arith, with-type-new (i .Θ) (c .next) public-value)
-    invented-public v (inr m) = has-type-later (i .Θ) (c .next) public-value v public-value (i .known-public v m)
+    invented-public : (v : Value) → extend (c .next ∷ []) (c .known) v ≡ true → Has-type (with-type (i .Θ) (c .next) public-value) (suc (c .next)) v public-value
+    invented-public v h = elim (extend-cases (c .next ∷ []) (c .known) v h) [
+      | inl m ↦ subst (λ u. Has-type (with-type (i .Θ) (c .next) public-value) (suc (c .next)) u public-value) (sym (only-member v (c .next) m))
+          (omega arith, with-type-new (i .Θ) (c .next) public-value)
+      | inr k ↦ has-type-later (i .Θ) (c .next) public-value v public-value (i .known-public v k)
+    ]
 
   pub preserved : (c d : Configuration) → Invariant c → Reduction K c d → Invariant d
   preserved c d i (step-stop {r = r} k) =
@@ -217,7 +221,7 @@ module _ (K : Operations) (W : Laws K) (types : Assignment) where
       record {
         Θ = i .Θ;
         typed = insertion-all _ o (receive-typed K W types (i .Θ) (c .next) w zs vs p ρ (f .0) n
-            (λ j h. let v = i .known-public (getD vs j 0) (all-getD (λ v. v ∈ c .known) vs j 0 h a) in (v .0, v .1 ∙ ap (λ t. component t j vs) (sym w-public)))) (f .1);
+            (λ j h. let v = i .known-public (getD vs j 0) (all-getD (λ v. c .known v ≡ true) vs j 0 h a) in (v .0, v .1 ∙ ap (λ t. component t j vs) (sym w-public)))) (f .1);
         paid = λ M. back c i _ t r o M _ _ (less c i (thread (receive w zs p) ρ) r k M _
             (subst (λ (b : ℕ). cost K W types M (thread p (bind zs vs ρ)) ≤ b)
             (ap (λ t. K .join (carries t vs M) (cost K W types M (thread (receive w zs p) ρ))) w-public ∙ neutral-left K W _)

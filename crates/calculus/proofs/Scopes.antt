@@ -9,13 +9,12 @@ use lib.ListN.{getD, take}
 use Rattle.std.specs.shelf.Lists.{All}
 use Rattle.std.proofs.shelf.Elements.{all-weaker}
 use Rattle.std.proofs.shelf.Tests.{and-parts, and-from, and-cases, both-ways, cases-bool, ltb-true, lt-ltb, eqb-true, eq-eqb}
-use Rattle.calculus.specs.Lists.{_∈_, every}
+use Rattle.calculus.specs.Lists.{_∈_, every, extend}
 use Rattle.calculus.specs.Labels.{Label, items}
 use Rattle.calculus.specs.Types.{Name, Item, name, index, NameType, pure, public, channel, Assignment}
-use Rattle.calculus.specs.Scopes.{Scope, in-scope, label-in-scope, extend, Fresh, push, Well-formed-item, Well-formed-inside, Well-formed, outermost, Well-formed-environment}
-use Rattle.calculus.specs.Effects.{Effect, Within}
+use Rattle.calculus.specs.Scopes.{Scope, in-scope, label-in-scope, Fresh, push, Well-formed-item, Well-formed-inside, Well-formed, outermost, Well-formed-environment}
 use Rattle.calculus.specs.Typing.{Well-formed-in-turn}
-use Rattle.calculus.proofs.Lists.{all-member, every-all, all-every, place-of, only-member, member-of-front}
+use Rattle.calculus.proofs.Lists.{all-member, every-all, place-of, only-member, member-of-front}
 
 -- the parts of being in scope
 pub small : (Γ : Scope) (x : Name) → in-scope Γ x ≡ true → x < 64

@@ -12,10 +12,10 @@ use Rattle.std.proofs.shelf.Elements.{all-getD}
 use Rattle.std.proofs.shelf.Lists.{getD-map}
 use Rattle.std.proofs.shelf.Tests.{cases-bool, eqb-true, eq-eqb}
 use Rattle.calculus.specs.Countings.{Operations, Laws}
-use Rattle.calculus.specs.Lists.{_∈_}
+use Rattle.calculus.specs.Lists.{_∈_, extend}
 use Rattle.calculus.specs.Labels.{Label}
 use Rattle.calculus.specs.Types.{Name, Value, NameType, pure, public, channel, Assignment}
-use Rattle.calculus.specs.Scopes.{Scope, in-scope, extend, Well-formed, outermost, Well-formed-environment}
+use Rattle.calculus.specs.Scopes.{Scope, in-scope, Well-formed, outermost, Well-formed-environment}
 use Rattle.calculus.specs.Processes.{Process, send, receive, new}
 use Rattle.calculus.specs.Effects.{latent, amount}
 use Rattle.calculus.specs.Checks.{Checks}

@@ -6,9 +6,10 @@ use Prim.Native.Nat.{ℕ, zero, suc, _≤_, _<_}
 use native.Mathlib.Nat.{le-refl, le-trans}
 use native.Mathlib.Omega.{arith}
 use Rattle.std.proofs.shelf.Tests.{cases-bool}
+use Rattle.calculus.specs.Lists.{extend}
 use Rattle.calculus.specs.Countings.{Operations, Laws}
 use Rattle.calculus.specs.Types.{Assignment}
-use Rattle.calculus.specs.Scopes.{Scope, label-in-scope, extend, Well-formed-environment}
+use Rattle.calculus.specs.Scopes.{Scope, label-in-scope, Well-formed-environment}
 use Rattle.calculus.specs.Processes.{Process, stop, send, receive, both, copy, new, test, begin, end, size}
 use Rattle.calculus.specs.Effects.{Effect, _⊑_, Within, join-effects, full-right, amount}
 use Rattle.calculus.specs.Typing.{Rule, subsumption, stop-rule, send-rule, receive-rule, both-rule, copy-rule, new-rule, test-rule, begin-rule, end-rule, Derives-within, Derives}

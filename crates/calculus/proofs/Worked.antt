@@ -11,11 +11,11 @@ use lib.Dec.{ltb}
 use lib.ListN.{length, getD}
 use Rattle.std.proofs.shelf.Tests.{cond-true, lt-ltb, ltb-true, and-parts}
 use Rattle.calculus.specs.Countings.{Operations, Laws}
-use Rattle.calculus.specs.Lists.{_∈_, here, there}
+use Rattle.calculus.specs.Lists.{_∈_, here, there, extend}
 use Rattle.calculus.specs.Joins.{amount-if, rights}
 use Rattle.calculus.specs.Labels.{Label, one}
-use Rattle.calculus.specs.Types.{Name, Value, Item, name, index, public, pure, fill-index, required, entries-at, Same-type, same-public, same-channel}
-use Rattle.calculus.specs.Scopes.{Scope, in-scope, extend, Well-formed, Well-formed-inside, push}
+use Rattle.calculus.specs.Types.{Name, Item, name, index, public, pure, fill-index, required, entries-at, Same-type, same-public, same-channel}
+use Rattle.calculus.specs.Scopes.{Scope, in-scope, Well-formed, Well-formed-inside, push}
 use Rattle.calculus.specs.Processes.{stop, send, receive, both, test, begin, end}
 use Rattle.calculus.specs.Effects.{_≟_, empty, amount}
 use Rattle.calculus.specs.Typing.{Channel-use, Well-formed-in-turn}
@@ -153,16 +153,11 @@ worked-starts = record {
   valuation = λ x. x;
   alone = refl;
   values = λ x s. ltb-true x 2 (and-parts (ltb x 64) (ltb x 2) s .1);
-  known = known;
+  known = λ v k. ltb-true v 2 k;
   made = ((omega arith, refl), ((omega arith, refl), tt));
   no-begin = λ M. refl;
   no-end = λ M. refl;
 }
-  where
-    known : (v : Value) → v ∈ (0 ∷ 1 ∷ []) → v < 2
-    known v (inl e) = omega arith
-    known v (inr (inl e)) = omega arith
-    known v (inr (inr m)) = elim m [ ]
 
 -- the run: the outsider asks for the block, the station grants it, and the permission is used up
 works : (K : Operations) → Laws K → Works K
@@ -174,7 +169,7 @@ works K W = record {
   reachable =
       after (after (after (after (after (after (after (after (after (after (after (after at-once
       (step-new here here)) (step-both here here here)) (step-copy here here)) (step-copy (there (there here)) here))
-      (feed (0 ∷ []) here (inr (inl refl)) refl (inl refl, tt) here))
+      (feed (0 ∷ []) here refl refl (refl, tt) here))
       (step-new here here)) (step-both here here here))
       (meet (there here) (there here) refl refl here)) (step-equal here refl here)) (step-begin here here))
       (meet here here refl refl here))

@@ -4,10 +4,10 @@ use mathlib.Core.List.{[], _∷_}
 use mathlib.Core.Bool.{true}
 use Rattle.std.specs.shelf.Lists.{All}
 use Rattle.calculus.specs.Countings.{Operations}
-use Rattle.calculus.specs.Lists.{_∈_}
+use Rattle.calculus.specs.Lists.{_∈_, extend}
 use Rattle.calculus.specs.Labels.{Label, items}
 use Rattle.calculus.specs.Types.{Name, Assignment}
-use Rattle.calculus.specs.Scopes.{Scope, in-scope, label-in-scope, extend, Fresh, Well-formed}
+use Rattle.calculus.specs.Scopes.{Scope, in-scope, label-in-scope, Fresh, Well-formed}
 use Rattle.calculus.specs.Processes.{Process, stop, send, receive, both, copy, new, test, begin, end}
 use Rattle.calculus.specs.Effects.{amount}
 use Rattle.calculus.specs.Typing.{Channel-use, Well-formed-in-turn}

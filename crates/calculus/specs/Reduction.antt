@@ -1,13 +1,13 @@
 -- The reduction: what a running process may do next, beside an outsider who may use what it knows.
 use mathlib.Core.Path.{_≡_}
-use mathlib.Core.List.{List, [], _∷_, map, _++_}
-use mathlib.Core.Bool.{cond}
+use mathlib.Core.List.{List, [], _∷_, map}
+use mathlib.Core.Bool.{Bool, true, cond}
 use Prim.Native.Nat.{ℕ, suc, _+_, _≤_}
 use lib.Dec.{eqb}
 use lib.ListN.{length}
 use Rattle.std.specs.shelf.Lists.{All}
 use Rattle.calculus.specs.Countings.{Operations}
-use Rattle.calculus.specs.Lists.{_∈_, Removal}
+use Rattle.calculus.specs.Lists.{extend, Removal}
 use Rattle.calculus.specs.Joins.{amount-if, rights}
 use Rattle.calculus.specs.Labels.{Label, map-label}
 use Rattle.calculus.specs.Types.{Name, Value}
@@ -48,7 +48,7 @@ pub record Configuration : Type 0 where
   -- the next unused value
   pub next : Value
   -- the values that the outsider knows
-  pub known : List Value
+  pub known : Value → Bool
   -- the values made for names so far
   pub made : List (Value × Name)
   -- the begins and the ends so far
@@ -91,14 +91,14 @@ pub data Reduction (K : Operations) (c : Configuration) : Configuration → Type
       Removal (thread p (bind zs (map σ ys) ρ)) t r → Reduction K c (with-threads c t)
   -- the outsider hears what is sent on a value that it knows
   hear : {x : Name} {ys : List Name} {σ : Valuation} {r : List Thread} →
-      Removal (thread (send x ys) σ) (c .threads) r → σ x ∈ c .known →
-      Reduction K c (record { threads = r; next = c .next; known = map σ ys ++ c .known; made = c .made; begins = c .begins; ends = c .ends })
+      Removal (thread (send x ys) σ) (c .threads) r → c .known (σ x) ≡ true →
+      Reduction K c (record { threads = r; next = c .next; known = extend (map σ ys) (c .known); made = c .made; begins = c .begins; ends = c .ends })
   -- the outsider feeds values that it knows to a receiver on a value that it knows
   feed : {w : Name} {zs : List Name} (vs : List Value) {p : Process} {ρ : Valuation} {r t : List Thread} →
-      Removal (thread (receive w zs p) ρ) (c .threads) r → ρ w ∈ c .known → length vs ≡ length zs → All (λ v. v ∈ c .known) vs →
+      Removal (thread (receive w zs p) ρ) (c .threads) r → c .known (ρ w) ≡ true → length vs ≡ length zs → All (λ v. c .known v ≡ true) vs →
       Removal (thread p (bind zs vs ρ)) t r → Reduction K c (with-threads c t)
   -- the outsider invents a value
-  invent : Reduction K c (record { threads = c .threads; next = suc (c .next); known = c .next ∷ c .known; made = c .made; begins = c .begins; ends = c .ends })
+  invent : Reduction K c (record { threads = c .threads; next = suc (c .next); known = extend (c .next ∷ []) (c .known); made = c .made; begins = c .begins; ends = c .ends })
 
 -- d comes of c by any number of reductions
 pub data Reachable (K : Operations) (c : Configuration) : Configuration → Type 0 where

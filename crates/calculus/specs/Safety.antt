@@ -27,7 +27,7 @@ pub record Start (free : Scope) (p : Process) (c : Configuration) : Type 0 where
   pub valuation : Valuation
   pub alone : c .threads ≡ thread p valuation ∷ []
   pub values : (x : Name) → in-scope free x ≡ true → valuation x < c .next
-  pub known : (v : Value) → v ∈ c .known → v < c .next
+  pub known : (v : Value) → c .known v ≡ true → v < c .next
   pub made : All (λ m. (m .0 < c .next) × (in-scope free (m .1) ≡ true)) (c .made)
   pub no-begin : (M : Label Value) → c .begins M ≡ 0
   pub no-end : (M : Label Value) → c .ends M ≡ 0
@@ -40,7 +40,7 @@ pub record Safe (K : Operations) (types : Assignment) (c : Configuration) : Type
   pub next-end-covered : (l : Label Name) (p : Process) (ρ : Valuation) (r : List Thread) →
       Removal (thread (end l p) ρ) (c .threads) r → Covered K c (map-label ρ l)
   -- the outsider knows no value made for a name that is not public
-  pub secret : (v : Value) (x : Name) → v ∈ c .known → (v, x) ∈ c .made → types x ≡ public
+  pub secret : (v : Value) (x : Name) → c .known v ≡ true → (v, x) ∈ c .made → types x ≡ public
   -- a sender and a receiver that wait on one value made for such a name have equal counts
   pub counts-agree : (v : Value) (n : Name) → (v, n) ∈ c .made → (types n ≡ public → ⊥) →
       (x w : Name) (ys zs : List Name) (p : Process) (σ ρ : Valuation) (s r : List Thread) →

@@ -1,9 +1,9 @@
 -- Scopes: which names may be used where, which names may be bound, and which types are well formed.
 use mathlib.Core.Path.{_≡_}
 use mathlib.Core.List.{List, [], _∷_}
-use mathlib.Core.Bool.{Bool, true, false, cond, _&&_}
+use mathlib.Core.Bool.{Bool, true, false, _&&_}
 use Prim.Native.Nat.{ℕ, zero, suc, _≤_, _<_}
-use lib.Dec.{eqb, ltb}
+use lib.Dec.{ltb}
 use Rattle.std.specs.shelf.Lists.{All}
 use Rattle.calculus.specs.Lists.{_∈_, every}
 use Rattle.calculus.specs.Labels.{Label, items}
@@ -20,11 +20,6 @@ in-scope Γ x = ltb x 64 && Γ x
 -- each name of the label is in scope
 abbrev pub label-in-scope : Scope → Label Name → Bool
 label-in-scope Γ L = every (in-scope Γ) (items L)
-
--- the scope with further names in it
-abbrev pub extend : List Name → Scope → Scope
-extend [] Γ x = Γ x
-extend (z ∷ zs) Γ x = cond (eqb z x) true (extend zs Γ x)
 
 -- names that may be bound together: each is one of the 64, not in scope yet, and bound once
 abbrev pub Fresh : List Name → Scope → Type 0

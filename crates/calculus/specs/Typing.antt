@@ -6,10 +6,10 @@ use Prim.Native.Nat.{ℕ, zero, suc, _<_}
 use lib.ListN.{length, getD, take}
 use Rattle.std.specs.shelf.Lists.{All}
 use Rattle.calculus.specs.Countings.{Operations}
-use Rattle.calculus.specs.Lists.{_∈_}
+use Rattle.calculus.specs.Lists.{_∈_, extend}
 use Rattle.calculus.specs.Labels.{Label, items}
 use Rattle.calculus.specs.Types.{Name, NameType, pure, public, channel, Assignment, required, Same-type}
-use Rattle.calculus.specs.Scopes.{Scope, in-scope, label-in-scope, extend, Fresh, Well-formed}
+use Rattle.calculus.specs.Scopes.{Scope, in-scope, label-in-scope, Fresh, Well-formed}
 use Rattle.calculus.specs.Processes.{Process, stop, send, receive, both, copy, new, test, begin, end, size}
 use Rattle.calculus.specs.Effects.{Effect, empty, _⊑_, Within, join-effects, larger, full-right, latent}
 

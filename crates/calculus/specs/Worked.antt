@@ -40,7 +40,7 @@ worked = new 2 (both (copy asks) (copy grants))
 
 -- it starts with a value for each free name, both known to the outsider
 abbrev pub worked-start : Configuration
-worked-start = record { threads = thread worked (λ x. x) ∷ []; next = 2; known = 0 ∷ 1 ∷ []; made = (0, 0) ∷ (1, 1) ∷ []; begins = λ M. 0; ends = λ M. 0 }
+worked-start = record { threads = thread worked (λ x. x) ∷ []; next = 2; known = λ v. ltb v 2; made = (0, 0) ∷ (1, 1) ∷ []; begins = λ M. 0; ends = λ M. 0 }
 
 -- under the counting K: K keeps the laws, the process is accepted, it may start there, and a run reaches an end of the label of the value 0
 pub record Works (K : Operations) : Type 0 where
