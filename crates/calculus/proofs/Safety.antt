@@ -11,18 +11,18 @@ use Rattle.calculus.specs.Lists.{_∈_, Removal}
 use Rattle.calculus.specs.Joins.{join-over, rights}
 use Rattle.calculus.specs.Labels.{Label, map-label}
 use Rattle.calculus.specs.Types.{Name, Value, NameType, pure, public, channel, Assignment}
-use Rattle.calculus.specs.Scopes.{Scope, Well-formed, Well-formed-environment}
+use Rattle.calculus.specs.Scopes.{Scope}
 use Rattle.calculus.specs.Processes.{Process, send, receive, end}
 use Rattle.calculus.specs.Effects.{_≟_, empty, full-right, amount}
-use Rattle.calculus.specs.Typing.{Takes}
+use Rattle.calculus.specs.Typing.{Takes, Accepted}
 use Rattle.calculus.specs.Reduction.{Valuation, Thread, thread, Configuration, Covered, Reachable, at-once, after}
-use Rattle.calculus.specs.Safety.{Accepted, Start, Safe}
+use Rattle.calculus.specs.Safety.{Start, Safe}
 use Rattle.calculus.specs.Theorems.{Runs-safe}
 use Rattle.calculus.proofs.Lists.{all-member, removal-all}
 use Rattle.calculus.proofs.Joins.{if-yes, join-monotone, left-below, right-below, over-removal}
 use Rattle.calculus.proofs.Meanings.{ValueType, pure-value, public-value, channel-value, meaning}
 use Rattle.calculus.proofs.Effects.{instance, instance-monotone, instance-join, instance-empty, instance-full-right}
-use Rattle.calculus.proofs.Typing.{exact}
+use Rattle.calculus.proofs.Typing.{exact, public-environment}
 use Rattle.calculus.proofs.Threads.{Well-typed, cost}
 use Rattle.calculus.proofs.Preservation.{Invariant, preserved}
 
@@ -41,7 +41,7 @@ module _ (K : Operations) (W : Laws K) (types : Assignment) where
   -- at the start every value is public, and nothing is needed
   at-start : (free : Scope) (p : Process) (c : Configuration) → Accepted K types free p → Start free p c → Invariant K W types c
   at-start free p c a s =
-      let env : Well-formed-environment types free = λ x t. subst (Well-formed free) (sym (a .free-public x t)) tt in
+      let env = public-environment types free (a .free-public) in
       let g = exact K W types p free env empty .0 (a .derives-empty) in
       record {
         Θ = λ v. public-value;

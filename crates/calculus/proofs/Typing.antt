@@ -1,6 +1,7 @@
 -- The rules and the checks agree: a process has an effect exactly when it passes the checks and the effect is at least its amount.
 use mathlib.Core.Path.{_≡_, refl, sym, _∙_, ap₂, subst}
 use mathlib.Core.List.{[], _∷_}
+use mathlib.Core.Bool.{true}
 use mathlib.Core.Logic.{inl, inr}
 use Prim.Native.Nat.{ℕ, zero, suc, _≤_, _<_}
 use native.Mathlib.Nat.{le-refl, le-trans}
@@ -8,13 +9,13 @@ use native.Mathlib.Omega.{arith}
 use Rattle.std.proofs.shelf.Tests.{cases-bool}
 use Rattle.calculus.specs.Lists.{extend}
 use Rattle.calculus.specs.Countings.{Operations, Laws}
-use Rattle.calculus.specs.Types.{Assignment}
-use Rattle.calculus.specs.Scopes.{Scope, label-in-scope, Well-formed-environment}
+use Rattle.calculus.specs.Types.{Name, public, Assignment}
+use Rattle.calculus.specs.Scopes.{Scope, in-scope, label-in-scope, Well-formed, Well-formed-environment}
 use Rattle.calculus.specs.Processes.{Process, stop, send, receive, both, copy, new, test, begin, end, size}
-use Rattle.calculus.specs.Effects.{Effect, _⊑_, Within, join-effects, full-right, amount}
+use Rattle.calculus.specs.Effects.{Effect, empty, _⊑_, Within, join-effects, full-right, amount}
 use Rattle.calculus.specs.Typing.{Rule, subsumption, stop-rule, send-rule, receive-rule, both-rule, copy-rule, new-rule, test-rule, begin-rule, end-rule, Derives-within, Derives}
 use Rattle.calculus.specs.Checks.{Checks}
-use Rattle.calculus.specs.Theorems.{Agreement, Typing-agrees}
+use Rattle.calculus.specs.Theorems.{Agreement, Typing-agrees, Acceptance-agrees}
 use Rattle.calculus.proofs.Joins.{join-monotone, left-below, join-zero}
 use Rattle.calculus.proofs.Scopes.{fresh-name, names-new-one, names-absent, environment-new, environment-receive}
 use Rattle.calculus.proofs.Effects.{latent-within, full-right-within, amount-within}
@@ -136,3 +137,18 @@ module _ (K : Operations) (W : Laws K) (types : Assignment) where
 
 pub typing-agrees : Typing-agrees
 typing-agrees K W types Γ p c = agreement K W types Γ p c
+
+-- public names have well-formed types
+pub public-environment : (types : Assignment) (free : Scope) → ((x : Name) → in-scope free x ≡ true → types x ≡ public) → Well-formed-environment types free
+public-environment types free h x s = subst (Well-formed free) (sym (h x s)) tt
+
+pub acceptance-agrees : Acceptance-agrees
+acceptance-agrees K W types free p = (
+  λ a. let g = exact K W types p free (public-environment types free (a .free-public)) empty .0 (a .derives-empty) in
+      record { free-public = a .free-public; checked = g .0; needs-nothing = λ L. let l = g .1 L in omega arith },
+  λ a. record {
+    free-public = a .free-public;
+    derives-empty = exact K W types p free (public-environment types free (a .free-public)) empty .1
+        (a .checked, (λ L. let e = a .needs-nothing L in omega arith), λ L n. refl);
+  },
+)

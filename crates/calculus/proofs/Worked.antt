@@ -17,16 +17,16 @@ use Rattle.calculus.specs.Labels.{Label, one}
 use Rattle.calculus.specs.Types.{Name, Item, name, index, public, pure, fill-index, required, entries-at, Same-type, same-public, same-channel}
 use Rattle.calculus.specs.Scopes.{Scope, in-scope, Well-formed, Well-formed-inside, push}
 use Rattle.calculus.specs.Processes.{stop, send, receive, both, test, begin, end}
-use Rattle.calculus.specs.Effects.{_≟_, empty, amount}
-use Rattle.calculus.specs.Typing.{Channel-use, Well-formed-in-turn}
+use Rattle.calculus.specs.Effects.{_≟_, amount}
+use Rattle.calculus.specs.Typing.{Channel-use, Well-formed-in-turn, Accepted}
 use Rattle.calculus.specs.Checks.{Checks}
 use Rattle.calculus.specs.Reduction.{at-once, after, step-both, step-copy, step-new, step-equal, step-begin, step-end, meet, feed}
-use Rattle.calculus.specs.Safety.{Accepted, Start}
+use Rattle.calculus.specs.Safety.{Start}
 use Rattle.calculus.specs.Built.{parts, once}
 use Rattle.calculus.specs.Worked.{worked-free, acknowledges, worked-types, asks, grants, worked, worked-start, Works}
 use Rattle.calculus.specs.Theorems.{Nothing-empty}
 use Rattle.calculus.proofs.Joins.{if-yes, neutral-left, join-zero, lack-zero, lack-self}
-use Rattle.calculus.proofs.Typing.{exact}
+use Rattle.calculus.proofs.Typing.{acceptance-agrees}
 use Rattle.calculus.proofs.Built.{parts-laws, once-laws}
 
 -- an index of the level that is filled becomes the argument
@@ -142,11 +142,7 @@ module _ (K : Operations) (W : Laws K) where
   free-public (suc (suc x)) s = let h = ltb-true (suc (suc x)) 2 (and-parts (ltb (suc (suc x)) 64) (ltb (suc (suc x)) 2) s .1) in absurd (omega arith)
 
   worked-accepted : Accepted K (worked-types K) worked-free worked
-  worked-accepted = record {
-    free-public = free-public;
-    derives-empty = exact K W (worked-types K) worked worked-free (λ x s. subst (Well-formed worked-free) (sym (free-public x s)) tt) empty .1
-        (worked-checked, (λ L. subst (λ (a : ℕ). a ≤ 0) (sym (needs-nothing L)) (le-refl 0)), λ L n. refl);
-  }
+  worked-accepted = acceptance-agrees K W (worked-types K) worked-free worked .1 (record { free-public = free-public; checked = worked-checked; needs-nothing = needs-nothing })
 
 worked-starts : Start worked-free worked worked-start
 worked-starts = record {

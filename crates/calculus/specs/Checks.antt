@@ -6,7 +6,7 @@ use Rattle.std.specs.shelf.Lists.{All}
 use Rattle.calculus.specs.Countings.{Operations}
 use Rattle.calculus.specs.Lists.{_∈_, extend}
 use Rattle.calculus.specs.Labels.{Label, items}
-use Rattle.calculus.specs.Types.{Name, Assignment}
+use Rattle.calculus.specs.Types.{Name, public, Assignment}
 use Rattle.calculus.specs.Scopes.{Scope, in-scope, label-in-scope, Fresh, Well-formed}
 use Rattle.calculus.specs.Processes.{Process, stop, send, receive, both, copy, new, test, begin, end}
 use Rattle.calculus.specs.Effects.{amount}
@@ -31,3 +31,9 @@ Checks K types Γ (new x p) =
 Checks K types Γ (test x y p q) = (in-scope Γ x ≡ true) × (in-scope Γ y ≡ true) × Checks K types Γ p × Checks K types Γ q
 Checks K types Γ (begin l p) = (label-in-scope Γ l ≡ true) × Checks K types Γ p
 Checks K types Γ (end l p) = (label-in-scope Γ l ≡ true) × Checks K types Γ p
+
+-- a whole process passes: its free names are public, it passes the checks, and it needs nothing at any label
+pub record Passes (K : Operations) (types : Assignment) (free : Scope) (p : Process) : Type 0 where
+  pub free-public : (x : Name) → in-scope free x ≡ true → types x ≡ public
+  pub checked : Checks K types free p
+  pub needs-nothing : (L : Label Name) → amount K types p L ≡ 0

@@ -1,4 +1,4 @@
--- Safety: which processes are accepted, where a run starts, and what holds of every configuration that it reaches.
+-- Safety: where a run starts, and when a configuration is safe.
 use mathlib.Core.Path.{_≡_}
 use mathlib.Core.List.{List, [], _∷_}
 use mathlib.Core.Bool.{true}
@@ -12,14 +12,7 @@ use Rattle.calculus.specs.Labels.{Label, map-label}
 use Rattle.calculus.specs.Types.{Name, Value, public, Assignment}
 use Rattle.calculus.specs.Scopes.{Scope, in-scope}
 use Rattle.calculus.specs.Processes.{Process, send, receive, end}
-use Rattle.calculus.specs.Effects.{empty}
-use Rattle.calculus.specs.Typing.{Derives}
 use Rattle.calculus.specs.Reduction.{Valuation, Thread, thread, Configuration, Covered}
-
--- a whole process is accepted: its free names are public, and the rules give it the empty effect
-pub record Accepted (K : Operations) (types : Assignment) (free : Scope) (p : Process) : Type 0 where
-  pub free-public : (x : Name) → in-scope free x ≡ true → types x ≡ public
-  pub derives-empty : Derives K types free p empty
 
 -- where a run of p may start: one thread, at p. The free names have values, the outsider knows only values that there are,
 -- values were made for free names only, and nothing has begun or ended

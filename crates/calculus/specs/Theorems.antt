@@ -8,10 +8,10 @@ use Rattle.calculus.specs.Types.{Name, Assignment}
 use Rattle.calculus.specs.Scopes.{Scope, Well-formed-environment}
 use Rattle.calculus.specs.Processes.{Process, size}
 use Rattle.calculus.specs.Effects.{Effect, _⊑_, amount}
-use Rattle.calculus.specs.Typing.{Rule, Derives}
-use Rattle.calculus.specs.Checks.{Checks}
+use Rattle.calculus.specs.Typing.{Rule, Derives, Accepted}
+use Rattle.calculus.specs.Checks.{Checks, Passes}
 use Rattle.calculus.specs.Reduction.{Configuration, Reachable, Error}
-use Rattle.calculus.specs.Safety.{Accepted, Start, Safe}
+use Rattle.calculus.specs.Safety.{Start, Safe}
 use Rattle.calculus.specs.Ceiling.{Entries-small, Few}
 use Rattle.calculus.specs.Built.{parts, once}
 use Rattle.calculus.specs.Worked.{Works}
@@ -34,6 +34,11 @@ pub record Agreement (K : Operations) (types : Assignment) (Γ : Scope) (p : Pro
 -- the rules and the checks agree wherever the names in scope have well-formed types
 abbrev pub Typing-agrees : Type 0
 Typing-agrees = (K : Operations) → Laws K → (types : Assignment) (Γ : Scope) (p : Process) → Well-formed-environment types Γ → Agreement K types Γ p
+
+-- the rules accept a whole process exactly when it passes
+abbrev pub Acceptance-agrees : Type 0
+Acceptance-agrees = (K : Operations) → Laws K → (types : Assignment) (free : Scope) (p : Process) →
+    (Accepted K types free p → Passes K types free p) × (Passes K types free p → Accepted K types free p)
 
 -- every configuration that a run of an accepted process reaches is safe, and none is an error
 abbrev pub Runs-safe : Type 0

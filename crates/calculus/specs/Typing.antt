@@ -60,3 +60,8 @@ Derives-within K types (suc n) Γ p e = Rule K types (Derives-within K types n) 
 -- in the scope Γ, the process p has the effect e
 abbrev pub Derives : Operations → Assignment → Scope → Process → Effect → Type 0
 Derives K types Γ p e = Derives-within K types (size p) Γ p e
+
+-- a whole process is accepted: its free names are public, and the rules give it the empty effect
+pub record Accepted (K : Operations) (types : Assignment) (free : Scope) (p : Process) : Type 0 where
+  pub free-public : (x : Name) → in-scope free x ≡ true → types x ≡ public
+  pub derives-empty : Derives K types free p empty

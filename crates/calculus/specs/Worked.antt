@@ -8,8 +8,9 @@ use Rattle.calculus.specs.Labels.{one}
 use Rattle.calculus.specs.Types.{Item, name, index, NameType, pure, public, channel, Assignment}
 use Rattle.calculus.specs.Scopes.{Scope}
 use Rattle.calculus.specs.Processes.{Process, stop, send, receive, both, copy, new, test, begin, end}
+use Rattle.calculus.specs.Typing.{Accepted}
 use Rattle.calculus.specs.Reduction.{thread, Configuration, Reachable}
-use Rattle.calculus.specs.Safety.{Accepted, Start}
+use Rattle.calculus.specs.Safety.{Start}
 
 -- the names, by number: 0 a block, 1 the panel on which the outsider asks, 2 the channel to the station, 3 what was asked, 4 its acknowledgement,
 -- 5 what the station hears, 6 where it acknowledges. 0 and 1 are free

@@ -2,7 +2,7 @@
 //!
 //! The definitions and the statements stand in `specs/`, the proofs in `proofs/`. Each function here answers 0;
 //! what it is for stands in its contract, a theorem.
-ghost use Rattle.calculus.specs.Theorems.{Labels-ordered, Typing-agrees, Runs-safe, Amounts-fit, Nothing-empty};
+ghost use Rattle.calculus.specs.Theorems.{Labels-ordered, Typing-agrees, Acceptance-agrees, Runs-safe, Amounts-fit, Nothing-empty};
 
 /// Labels stand in one strict order, so that there is a first among the labels at fault.
 pub fn labels_ordered() -> u8
@@ -12,8 +12,10 @@ pub fn labels_ordered() -> u8
 }
 
 /// The rules derive an effect for a process exactly when the checks accept it, and the least amount is the least effect that they derive.
+/// So they accept a whole process exactly when it passes the checks, its free names are public, and it needs nothing.
 pub fn typing_agrees() -> u8
-    ensures { λ _. ⌜ Typing-agrees ⌝ }
+    ensures processes { λ _. ⌜ Typing-agrees ⌝ }
+    ensures whole { λ _. ⌜ Acceptance-agrees ⌝ }
 {
     0
 }
