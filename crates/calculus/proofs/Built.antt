@@ -11,10 +11,12 @@ use Rattle.std.proofs.shelf.Tests.{cases-bool, leb-true, leb-false}
 use Rattle.calculus.specs.Countings.{Laws, Each≤, joined}
 use Rattle.calculus.specs.Built.{parts, once}
 
+-- so many entries add up to no more than so many times the largest
 parts-joined : (n : ℕ) (amounts : List ℕ) → Each≤ 100000 amounts → joined (parts n) amounts ≤ length amounts * 100000
 parts-joined n [] e = omega arith
 parts-joined n (a ∷ amounts) e = let h = parts-joined n amounts (e .1) in let k = e .0 in omega arith
 
+-- adding keeps the laws
 pub parts-laws : (n : ℕ) → 1 ≤ n → n ≤ 100000 → Laws (parts n)
 parts-laws n some fits = record {
   commutative = λ a b. omega arith;
@@ -37,10 +39,12 @@ once-lack a b = elim (cases-bool (leb a b)) [
   | inr q ↦ inr (leb-false a b q, ap (λ t. cond t 0 a) q)
 ]
 
+-- the largest of amounts up to 1 is at most 1
 once-joined : (amounts : List ℕ) → Each≤ 1 amounts → joined once amounts ≤ 1
 once-joined [] e = omega arith
 once-joined (a ∷ amounts) e = let h = once-joined amounts (e .1) in let k = e .0 in omega arith
 
+-- taking the larger keeps the laws
 pub once-laws : Laws once
 once-laws = record {
   commutative = λ a b. omega arith;

@@ -21,15 +21,19 @@ each-append b [] m h k = k
 each-append b (x ∷ l) m h k = (h .0, each-append b l m (h .1) k)
 
 module _ (K : Operations) (W : Laws K) where
+  -- 0 is a join of no amounts
   few-none : (n : ℕ) → Few K n 0
   few-none n = record { amounts = []; few = omega arith; each = tt; bound = le-refl 0 }
 
+  -- an amount up to the largest entry is a join of one
   few-one : (a : ℕ) → a ≤ K .largest → Few K 1 a
   few-one a h = record { amounts = a ∷ []; few = omega arith; each = (h, tt); bound = left-below K W a 0 }
 
+  -- fewer, and less
   few-less : {n m a b : ℕ} → n ≤ m → a ≤ b → Few K n b → Few K m a
   few-less h k f = record { amounts = f .amounts; few = le-trans (f .few) h; each = f .each; bound = le-trans k (f .bound) }
 
+  -- a join of two joins
   few-join : {n m a b : ℕ} → Few K n a → Few K m b → Few K (n + m) (K .join a b)
   few-join {a = a} {b = b} f g = record {
     amounts = f .amounts ++ g .amounts;
@@ -38,6 +42,7 @@ module _ (K : Operations) (W : Laws K) where
     bound = subst (λ (x : ℕ). K .join a b ≤ x) (sym (joined-append K W (f .amounts) (g .amounts))) (join-monotone K W (f .bound) (g .bound));
   }
 
+  -- the entries of a type, with arguments put in
   few-entries : (ys : List Name) (L : Label Name) (n : ℕ) (entries : List Entry) → length entries ≤ n → All (λ e. e .amount ≤ K .largest) entries →
       Few K n (join-over K entries (λ e. amount-if (map-label (named ys) (e .label) ≟ L) (e .amount)))
   few-entries ys L n [] h a = few-none n
@@ -46,6 +51,7 @@ module _ (K : Operations) (W : Laws K) where
       few-less (omega arith) (le-refl _)
       (few-join (few-one _ (if-at-most (map-label (named ys) (e .label) ≟ L) (e .amount) (K .largest) (a .0))) (few-entries ys L n entries (omega arith) (a .1)))
 
+  -- what a channel carries
   few-latent : (t : NameType) (ys : List Name) (L : Label Name) → Entries-small K t → Few K 8 (latent K t ys L)
   few-latent pure ys L s = few-none 8
   few-latent public ys L s = few-none 8
@@ -55,6 +61,7 @@ module _ (K : Operations) (W : Laws K) where
   max-below a b = let h = left-below K W a b in let k = right-below K W a b in omega arith
 
   module _ (types : Assignment) (small : (x : Name) → Entries-small K (types x)) (L : Label Name) where
+    -- node by node
     few-amount : (p : Process) → Few K (8 * size p) (amount K types p L)
     few-amount stop = few-none _
     few-amount (send x ys) = few-latent (types x) ys L (small x)
@@ -69,6 +76,7 @@ module _ (K : Operations) (W : Laws K) where
     fits-ceiling : (p : Process) → 8 * size p ≤ 8192 → amount K types p L ≤ K .ceiling
     fits-ceiling p h = let f = few-amount p in le-trans (f .bound) (W .bounded (f .amounts) (let k = f .few in omega arith) (f .each))
 
+-- the theorem
 pub amounts-fit : Amounts-fit
 amounts-fit K W types small p L =
     record {

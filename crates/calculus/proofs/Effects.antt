@@ -10,8 +10,8 @@ use Rattle.std.specs.shelf.Lists.{All}
 use Rattle.std.proofs.shelf.Elements.{all-weaker, all-map, all-getD}
 use Rattle.std.proofs.shelf.Lists.{getD-map}
 use Rattle.std.proofs.shelf.Tests.{both-ways, cases-bool}
-use Rattle.calculus.specs.Lists.{extend}
 use Rattle.calculus.specs.Countings.{Operations, Laws}
+use Rattle.calculus.specs.Lists.{extend}
 use Rattle.calculus.specs.Joins.{amount-if, join-over}
 use Rattle.calculus.specs.Labels.{Label, items, map-label}
 use Rattle.calculus.specs.Types.{Name, Value, Item, name, index, Entry, NameType, pure, public, channel, Assignment}
@@ -52,6 +52,7 @@ module _ (K : Operations) (W : Laws K) where
       (λ h. both-ways (label-in-scope Γ L) n (subst (λ M. label-in-scope Γ M ≡ true) h (named-in-scope Γ k ys a q e o)))) (w .1)
       ∙ over-zero K W entries
 
+  -- so is one full right on a label in scope
   pub full-right-within : (Γ : Scope) (l : Label Name) → label-in-scope Γ l ≡ true → Within Γ (full-right K l)
   full-right-within Γ l s L n = if-no (l ≟ L) (K .full) (λ e. both-ways (label-in-scope Γ L) n (subst (λ M. label-in-scope Γ M ≡ true) e s))
 
@@ -81,14 +82,17 @@ module _ (K : Operations) (W : Laws K) where
   abbrev pub instance : Valuation → Effect → Label Value → ℕ
   instance ρ e M = join-over K (all-labels K W .all) (λ L. amount-if (map-label ρ L ≟ M) (e L))
 
+  -- a larger effect has a larger instance
   pub instance-monotone : (ρ : Valuation) (e f : Effect) (M : Label Value) → e ⊑ f → instance ρ e M ≤ instance ρ f M
   instance-monotone ρ e f M h = over-monotone K W (all-labels K W .all) _ _ (λ L. if-monotone (map-label ρ L ≟ M) (e L) (f L) (h L))
 
+  -- the instance of a join is the join of the instances
   pub instance-join : (ρ : Valuation) (e f : Effect) (M : Label Value) → instance ρ (join-effects K e f) M ≡ K .join (instance ρ e M) (instance ρ f M)
   instance-join ρ e f M =
       over-alike K W (all-labels K W .all) (λ L. if-join K W (map-label ρ L ≟ M) (e L) (f L))
       ∙ over-join K W (all-labels K W .all) (λ L. amount-if (map-label ρ L ≟ M) (e L)) (λ L. amount-if (map-label ρ L ≟ M) (f L))
 
+  -- the instance of nothing is nothing
   pub instance-empty : (ρ : Valuation) (M : Label Value) → instance ρ empty M ≡ 0
   instance-empty ρ M = over-alike K W (all-labels K W .all) (λ L. if-zero (map-label ρ L ≟ M)) ∙ over-zero K W (all-labels K W .all)
 
@@ -100,6 +104,7 @@ module _ (K : Operations) (W : Laws K) where
     | inr f ↦ ap (amount-if (map-label ρ L ≟ M)) (w L f) ∙ if-zero (map-label ρ L ≟ M) ∙ sym (if-zero (map-label σ L ≟ M)) ∙ ap (amount-if (map-label σ L ≟ M)) (sym (w L f))
   ])
 
+  -- one full right stays one, on the label of values
   pub instance-full-right : (Γ : Scope) (ρ : Valuation) (l : Label Name) (M : Label Value) → label-in-scope Γ l ≡ true →
       instance ρ (full-right K l) M ≡ amount-if (map-label ρ l ≟ M) (K .full)
   instance-full-right Γ ρ l M s =

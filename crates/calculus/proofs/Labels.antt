@@ -15,6 +15,7 @@ use Rattle.calculus.specs.Effects.{_≟_}
 use Rattle.calculus.proofs.Lists.{map-alike, member-left, member-right}
 use Rattle.calculus.proofs.Universes.{Universe, universe}
 
+-- the items of a label with its items replaced
 pub items-map : {A B : Type 0} (f : A → B) (L : Label A) → items (map-label f L) ≡ map f (items L)
 items-map f (one a) = refl
 items-map f (two a b) = refl
@@ -26,6 +27,7 @@ pub map-label-alike : {A B : Type 0} (P : A → Type 0) (f g : A → B) → ((x 
     map-label f L ≡ map-label g L
 map-label-alike P f g h L a = items-determine _ _ (items-map f L ∙ map-alike P f g h (items L) a ∙ sym (items-map g L))
 
+-- replacing twice is replacing once
 pub map-label-twice : {A B C : Type 0} (f : B → C) (g : A → B) (L : Label A) → map-label f (map-label g L) ≡ map-label (λ x. f (g x)) L
 map-label-twice f g (one a) = refl
 map-label-twice f g (two a b) = refl

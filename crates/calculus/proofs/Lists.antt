@@ -29,27 +29,25 @@ pub all-every : {A : Type 0} (test : A → Bool) (l : List A) → All (λ x. tes
 all-every test [] a = refl
 all-every test (x ∷ l) a = and-from (test x) (every test l) (a .0) (all-every test l (a .1))
 
--- a member has a place, and what stands at a place is a member
+-- a member has a place
 pub place-of : {A : Type 0} (d x : A) (l : List A) → x ∈ l → (i : ℕ) × (i < length l) × (getD l i d ≡ x)
 place-of d x [] m = elim m [ ]
 place-of d x (y ∷ l) (inl e) = (0, omega arith, sym e)
 place-of d x (y ∷ l) (inr m) = let r = place-of d x l m in (suc (r .0), (let h = r .1 in omega arith), r .2)
 
-pub member-at : {A : Type 0} (d : A) (l : List A) (i : ℕ) → i < length l → getD l i d ∈ l
-member-at d [] i h = absurd (omega arith)
-member-at d (y ∷ l) zero h = inl refl
-member-at d (y ∷ l) (suc i) h = inr (member-at d l i (omega arith))
-
+-- a member of a front is a member
 pub member-of-front : {A : Type 0} (i : ℕ) (l : List A) (x : A) → x ∈ take i l → x ∈ l
 member-of-front zero l x m = elim m [ ]
 member-of-front (suc i) [] x m = elim m [ ]
 member-of-front (suc i) (y ∷ l) x (inl e) = inl e
 member-of-front (suc i) (y ∷ l) x (inr m) = inr (member-of-front i l x m)
 
+-- the member of a list of one
 pub only-member : {A : Type 0} (x y : A) → x ∈ (y ∷ []) → x ≡ y
 only-member x y (inl e) = e
 only-member x y (inr m) = elim m [ ]
 
+-- members of the first or the second list are members of both one after the other
 pub member-left : {A : Type 0} (x : A) (l m : List A) → x ∈ l → x ∈ (l ++ m)
 member-left x [] m h = elim h [ ]
 member-left x (y ∷ l) m (inl e) = inl e

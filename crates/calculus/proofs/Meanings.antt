@@ -37,6 +37,7 @@ component pure-value i vs = pure-value
 component public-value i vs = public-value
 component (channel-value n c e) i vs = c i vs
 
+-- the rights that a message brings
 abbrev pub carries : ValueType → List Value → Label Value → ℕ
 carries pure-value vs M = 0
 carries public-value vs M = 0
@@ -47,6 +48,7 @@ abbrev pub item-value : Valuation → (ℕ → List Value) → Item → Value
 item-value ρ outer (name x) = ρ x
 item-value ρ outer (index u p) = getD (outer u) p 0
 
+-- what a type inside other channel types says of a value
 abbrev pub meaning-inside : Operations → NameType → Valuation → (ℕ → List Value) → ValueType
 meaning-inside K pure ρ outer = pure-value
 meaning-inside K public ρ outer = public-value
@@ -54,6 +56,7 @@ meaning-inside K (channel n components entries) ρ outer =
     channel-value n (λ i vs. cond (ltb i n) (meaning-inside K (components i) ρ (push vs outer)) pure-value)
     (λ vs M. join-over K entries (λ e. amount-if (map-label (item-value ρ (push vs outer)) (e .label) ≟ M) (e .amount)))
 
+-- no channel lies further out
 abbrev pub nothing-sent : ℕ → List Value
 nothing-sent u = []
 
@@ -61,6 +64,7 @@ nothing-sent u = []
 abbrev pub meaning : Operations → NameType → Valuation → ValueType
 meaning K t ρ = meaning-inside K t ρ nothing-sent
 
+-- channels with the same count, components and effect are the same
 channel-alike : {n m : ℕ} {c d : ℕ → List Value → ValueType} {e f : List Value → Label Value → ℕ} → n ≡ m → ((i : ℕ) (vs : List Value) → c i vs ≡ d i vs) →
     ((vs : List Value) (M : Label Value) → e vs M ≡ f vs M) → channel-value n c e ≡ channel-value m d f
 channel-alike p q r = λ i. channel-value (p i) (λ j vs. q j vs i) (λ vs M. r vs M i)

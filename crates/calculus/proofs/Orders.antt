@@ -57,5 +57,6 @@ number-order = record { irreflexive = λ x h. omega arith; transitive = λ x y z
     compare x y (no n) (yes h) = inr (inr h)
     compare x y (no n) (no m) = inr (inl (omega arith))
 
+-- the theorem
 pub labels-ordered : Labels-ordered
 labels-ordered = label-order _<_ number-order

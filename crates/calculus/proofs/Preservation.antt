@@ -134,6 +134,7 @@ module _ (K : Operations) (W : Laws K) (types : Assignment) where
       | inr k ↦ has-type-later (i .Θ) (c .next) public-value v public-value (i .known-public v k)
     ]
 
+  -- each reduction keeps the invariant
   pub preserved : (c d : Configuration) → Invariant c → Reduction K c d → Invariant d
   preserved c d i (step-stop {r = r} k) =
       record { Θ = i .Θ; typed = taken c i k .1; paid = gone c i _ r k; known-public = i .known-public; made-well = i .made-well }

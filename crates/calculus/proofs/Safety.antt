@@ -96,6 +96,7 @@ module _ (K : Operations) (W : Laws K) (types : Assignment) where
       counts-agree = equal-counts;
     }
 
+-- the theorem
 pub runs-safe : Runs-safe
 runs-safe K W types free p c d a s r =
     let k = safe K W types d (reached K W types c d (at-start K W types free p c a s) r) in

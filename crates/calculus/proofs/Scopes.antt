@@ -26,6 +26,7 @@ present Γ x s = and-parts (ltb x 64) (Γ x) s .1
 pub scoped : (Γ : Scope) (x : Name) → x < 64 → Γ x ≡ true → in-scope Γ x ≡ true
 scoped Γ x l g = and-from (ltb x 64) (Γ x) (lt-ltb x 64 l) g
 
+-- each name of a label in scope is in scope
 pub label-names : (Γ : Scope) (L : Label Name) → label-in-scope Γ L ≡ true → All (λ x. in-scope Γ x ≡ true) (items L)
 label-names Γ L s = every-all (in-scope Γ) (items L) s
 
@@ -41,18 +42,22 @@ or-true : (b c : Bool) → c ≡ true → cond b true c ≡ true
 or-true true c t = refl
 or-true false c t = t
 
+-- an old name is in the extended scope
 pub extend-old : (zs : List Name) (Γ : Scope) (x : Name) → Γ x ≡ true → extend zs Γ x ≡ true
 extend-old [] Γ x t = t
 extend-old (z ∷ zs) Γ x t = or-true (eqb z x) (extend zs Γ x) (extend-old zs Γ x t)
 
+-- a new name is in the extended scope
 pub extend-new : (zs : List Name) (Γ : Scope) (x : Name) → x ∈ zs → extend zs Γ x ≡ true
 extend-new [] Γ x m = elim m [ ]
 extend-new (z ∷ zs) Γ x (inl e) = ap (λ b. cond b true (extend zs Γ x)) (eq-eqb z x (sym e))
 extend-new (z ∷ zs) Γ x (inr m) = or-true (eqb z x) (extend zs Γ x) (extend-new zs Γ x m)
 
+-- the same of names in scope
 pub in-scope-cases : (zs : List Name) (Γ : Scope) (x : Name) → in-scope (extend zs Γ) x ≡ true → (x ∈ zs) ⊎ (in-scope Γ x ≡ true)
 in-scope-cases zs Γ x s = elim (extend-cases zs Γ x (present (extend zs Γ) x s)) [ inl m ↦ inl m | inr g ↦ inr (scoped Γ x (small (extend zs Γ) x s) g) ]
 
+-- a name in scope stays in scope
 pub in-scope-extend : (zs : List Name) (Γ : Scope) (x : Name) → in-scope Γ x ≡ true → in-scope (extend zs Γ) x ≡ true
 in-scope-extend zs Γ x s = scoped (extend zs Γ) x (small Γ x s) (extend-old zs Γ x (present Γ x s))
 
@@ -62,6 +67,7 @@ fresh-name [] Γ f z m = elim m [ ]
 fresh-name (y ∷ zs) Γ f z (inl e) = (subst (λ (x : ℕ). x < 64) (sym e) (f .0), ap Γ e ∙ f .1)
 fresh-name (y ∷ zs) Γ f z (inr m) = fresh-name zs Γ (f .3) z m
 
+-- names bound together are in scope after
 pub bound-in-scope : (zs : List Name) (Γ : Scope) → Fresh zs Γ → (z : Name) → z ∈ zs → in-scope (extend zs Γ) z ≡ true
 bound-in-scope zs Γ f z m = scoped (extend zs Γ) z (fresh-name zs Γ f z m .0) (extend-new zs Γ z m)
 
@@ -84,6 +90,7 @@ names-new zs Γ L n s = find (items L) n (label-names (extend zs Γ) L s)
       ]
     ]
 
+-- the same where one name is new
 pub names-new-one : (x : Name) (Γ : Scope) (L : Label Name) → label-in-scope Γ L ≡ false → label-in-scope (extend (x ∷ []) Γ) L ≡ true → x ∈ items L
 names-new-one x Γ L n s = let z = names-new (x ∷ []) Γ L n s in subst (λ y. y ∈ items L) (only-member (z .0) x (z .1)) (z .2)
 
@@ -115,10 +122,12 @@ module _ (types : Assignment) where
     | inr g ↦ well-formed-wider Γ (extend zs Γ) (in-scope-extend zs Γ) (types x) outermost (c x g)
   ]
 
+  -- at new
   pub environment-new : (x : Name) (Γ : Scope) → Well-formed-environment types Γ → Well-formed Γ (types x) → Well-formed-environment types (extend (x ∷ []) Γ)
   environment-new x Γ c w = environment-extend (x ∷ []) Γ c (λ z m.
       subst (λ y. Well-formed (extend (x ∷ []) Γ) (types y)) (sym (only-member z x m)) (well-formed-wider Γ (extend (x ∷ []) Γ) (in-scope-extend (x ∷ []) Γ) (types x) outermost w))
 
+  -- at receive
   pub environment-receive : (zs : List Name) (Γ : Scope) → Well-formed-environment types Γ → Well-formed-in-turn types Γ zs →
       Well-formed-environment types (extend zs Γ)
   environment-receive zs Γ c w = environment-extend zs Γ c (λ z m. let r = place-of 0 z zs m in

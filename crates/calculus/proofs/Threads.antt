@@ -30,12 +30,14 @@ use Rattle.calculus.proofs.Valuations.{bind-here, bind-other, bind-all}
 abbrev pub with-type : (Value → ValueType) → Value → ValueType → Value → ValueType
 with-type Θ n t v = cond (eqb v n) t (Θ v)
 
+-- the other values keep their types
 pub with-type-old : (Θ : Value → ValueType) (n : Value) (t : ValueType) (v : Value) → v < n → with-type Θ n t v ≡ Θ v
 with-type-old Θ n t v h = elim (cases-bool (eqb v n)) [
   | inl q ↦ let e = eqb-true v n q in absurd (omega arith)
   | inr q ↦ ap (λ b. cond b t (Θ v)) q
 ]
 
+-- the new value has its type
 pub with-type-new : (Θ : Value → ValueType) (n : Value) (t : ValueType) → with-type Θ n t n ≡ t
 with-type-new Θ n t = ap (λ b. cond b t (Θ n)) (eq-eqb n n refl)
 
@@ -43,6 +45,7 @@ with-type-new Θ n t = ap (λ b. cond b t (Θ n)) (eq-eqb n n refl)
 abbrev pub Has-type : (Value → ValueType) → Value → Value → ValueType → Type 0
 Has-type Θ n v t = (v < n) × (Θ v ≡ t)
 
+-- values keep their types
 pub has-type-later : (Θ : Value → ValueType) (n : Value) (u : ValueType) (v : Value) (t : ValueType) → Has-type Θ n v t → Has-type (with-type Θ n u) (suc n) v t
 has-type-later Θ n u v t h = ((let k = h .0 in omega arith), with-type-old Θ n u v (h .0) ∙ h .1)
 
@@ -158,9 +161,11 @@ module _ (K : Operations) (W : Laws K) (types : Assignment) where
       new-old : (y : Name) → in-scope (f .scope) y ≡ true → ρ y ≡ made y
       new-old y s = sym (bind-other (x ∷ []) (n ∷ []) ρ y (not-bound (x ∷ []) (f .scope) (f .checked .0) y s))
 
+      -- goes on with the same need
       pub new-cost : (M : Label Value) → cost M (thread p (bind (x ∷ []) (n ∷ []) ρ)) ≡ cost M (thread (new x p) ρ)
       new-cost M = sym (instance-local K W (f .scope) ρ made new-old (amount K types p) M (amount-within K W types (new x p) (f .scope) (f .environment) (f .checked)))
 
+      -- stays well typed, with the new value of the type of its name
       pub new-typed : Well-typed K types (with-type Θ n (meaning K (types x) (bind (x ∷ []) (n ∷ []) ρ))) (suc n) (thread p (bind (x ∷ []) (n ∷ []) ρ))
       new-typed = record { scope = extend (x ∷ []) (f .scope); checked = f .checked .3; environment = environment-new types x (f .scope) (f .environment) (f .checked .1); values = both }
         where

@@ -7,8 +7,8 @@ use Prim.Native.Nat.{ℕ, zero, suc, _≤_, _<_}
 use native.Mathlib.Nat.{le-refl, le-trans}
 use native.Mathlib.Omega.{arith}
 use Rattle.std.proofs.shelf.Tests.{cases-bool}
-use Rattle.calculus.specs.Lists.{extend}
 use Rattle.calculus.specs.Countings.{Operations, Laws}
+use Rattle.calculus.specs.Lists.{extend}
 use Rattle.calculus.specs.Types.{Name, public, Assignment}
 use Rattle.calculus.specs.Scopes.{Scope, in-scope, label-in-scope, Well-formed, Well-formed-environment}
 use Rattle.calculus.specs.Processes.{Process, stop, send, receive, both, copy, new, test, begin, end, size}
@@ -135,6 +135,7 @@ module _ (K : Operations) (W : Laws K) (types : Assignment) where
     least = λ e d. exact p Γ c e .0 d .1;
   }
 
+-- the theorem on processes
 pub typing-agrees : Typing-agrees
 typing-agrees K W types Γ p c = agreement K W types Γ p c
 
@@ -142,6 +143,7 @@ typing-agrees K W types Γ p c = agreement K W types Γ p c
 pub public-environment : (types : Assignment) (free : Scope) → ((x : Name) → in-scope free x ≡ true → types x ≡ public) → Well-formed-environment types free
 public-environment types free h x s = subst (Well-formed free) (sym (h x s)) tt
 
+-- the theorem on whole processes
 pub acceptance-agrees : Acceptance-agrees
 acceptance-agrees K W types free p = (
   λ a. let g = exact K W types p free (public-environment types free (a .free-public)) empty .0 (a .derives-empty) in

@@ -13,9 +13,11 @@ use Rattle.calculus.specs.Scopes.{Scope, Fresh}
 use Rattle.calculus.specs.Reduction.{Valuation, bind}
 use Rattle.calculus.proofs.Lists.{map-alike-members}
 
+-- the first name has the first value
 pub bind-here : (z : Name) (v : Value) (zs : List Name) (vs : List Value) (ρ : Valuation) → bind (z ∷ zs) (v ∷ vs) ρ z ≡ v
 bind-here z v zs vs ρ = ap (λ b. cond b v (bind zs vs ρ z)) (eq-eqb z z refl)
 
+-- another name than the first
 bind-there : (z : Name) (v : Value) (zs : List Name) (vs : List Value) (ρ : Valuation) (x : Name) → (x ≡ z → ⊥) → bind (z ∷ zs) (v ∷ vs) ρ x ≡ bind zs vs ρ x
 bind-there z v zs vs ρ x n = elim (cases-bool (eqb z x)) [
   | inl q ↦ absurd (n (sym (eqb-true z x q)))

@@ -173,5 +173,6 @@ works K W = record {
   ended = ap (λ n. n + 0) (if-yes (one 0 ≟ one 0) 1 refl);
 }
 
+-- the theorem
 pub nothing-empty : Nothing-empty
 nothing-empty = (λ n some fits. works (parts n) (parts-laws n some fits), works once once-laws)
