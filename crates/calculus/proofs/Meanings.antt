@@ -5,7 +5,6 @@ use mathlib.Core.List.{List, [], map}
 use mathlib.Core.Bool.{Bool, true, false, cond}
 use Prim.Native.Nat.{ℕ, zero, suc, _≤_, _<_}
 use native.Mathlib.Nat.{le-trans}
-use native.Mathlib.Decide.{ℕ-discrete}
 use native.Mathlib.Omega.{arith}
 use lib.Dec.{ltb}
 use lib.ListN.{length, getD, take, length-take}
@@ -15,8 +14,9 @@ use Rattle.std.proofs.shelf.Lists.{getD-map}
 use Rattle.std.proofs.shelf.Tests.{ltb-true, lt-ltb, cond-true}
 use Rattle.calculus.specs.Countings.{Operations, Laws}
 use Rattle.calculus.specs.Joins.{amount-if, join-over}
-use Rattle.calculus.specs.Labels.{Label, map-label}
-use Rattle.calculus.specs.Types.{Name, Value, Item, name, index, Entry, NameType, pure, public, channel, Assignment, fill-index, fill-item, fill-entry, fill-type, required, entry-label-discrete, Same-type, same-pure, same-public, same-channel}
+use Rattle.calculus.specs.Equality.{decide, number-test}
+use Rattle.calculus.specs.Labels.{Label, map-label, label-test}
+use Rattle.calculus.specs.Types.{Name, Value, Item, name, index, Entry, NameType, pure, public, channel, Assignment, fill-index, fill-item, fill-entry, fill-type, required, item-test, Same-type, same-pure, same-public, same-channel}
 use Rattle.calculus.specs.Scopes.{Scope, in-scope, push, Well-formed-item, Well-formed-entry, Well-formed-inside, Well-formed}
 use Rattle.calculus.specs.Effects.{_≟_}
 use Rattle.calculus.specs.Typing.{Takes, Channel-use}
@@ -84,7 +84,7 @@ module _ (K : Operations) (W : Laws K) where
   same-meaning same-public ρ outer = refl
   same-meaning (same-channel {n = n} {m = m} {c = c} {d = d} {a = a} {b = b} e h r) ρ outer =
       channel-alike e (λ i vs. below-alike i n m _ _ e (λ l. same-meaning (h i l) ρ (push vs outer)))
-      (λ vs M. sent-alike K W entry-label-discrete (λ e. e .label) (λ e. e .amount) a b r (λ L. map-label (item-value ρ (push vs outer)) L ≟ M))
+      (λ vs M. sent-alike K W (decide (label-test item-test)) (λ e. e .label) (λ e. e .amount) a b r (λ L. map-label (item-value ρ (push vs outer)) L ≟ M))
 
   module _ (Γ : Scope) where
     -- entries whose items have the same values
@@ -145,7 +145,7 @@ module _ (K : Operations) (W : Laws K) where
         same : (vs : List Value) (x : Item) → Well-formed-item Γ (push n before) x → item-value ρ (push vs outer) (fill-item ys (suc k) x) ≡ item-value ρ (push vs filled) x
         same vs (name x) o = refl
         same vs (index u p) o = filled-index ρ ys (suc k) u p (push vs outer) (push vs filled) (filled-push ρ ys k outer filled vs h)
-            (λ e. le-trans (subst (λ (v : ℕ). p < push n before v) e o) b) (ℕ-discrete u (suc k))
+            (λ e. le-trans (subst (λ (v : ℕ). p < push n before v) e o) b) (decide number-test u (suc k))
 
     -- what is asked of the arguments of a channel says what types their values have
     pub argument-meaning : (types : Assignment) (ρ : Valuation) (x : Name) (ys : List Name) → Well-formed Γ (types x) → Channel-use K types x ys → (i : ℕ) → i < length ys →

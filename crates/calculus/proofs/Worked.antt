@@ -1,20 +1,19 @@
 -- The worked process is accepted under every counting that keeps the laws, and a run of it reaches an end.
-use mathlib.Core.Path.{_≡_, refl, sym, _∙_, ap, subst}
-use mathlib.Core.List.{List, [], _∷_}
+use mathlib.Core.Path.{_≡_, refl, sym, _∙_, subst}
+use mathlib.Core.List.{[], _∷_}
 use mathlib.Core.Bool.{true}
 use mathlib.Core.Logic.{inl, inr}
-use Prim.Native.Nat.{ℕ, zero, suc, _+_, _≤_, _<_}
+use Prim.Native.Nat.{ℕ, zero, suc, _<_}
 use native.Mathlib.Nat.{le-refl}
-use native.Mathlib.Decide.{ℕ-discrete}
 use native.Mathlib.Omega.{arith}
 use lib.Dec.{ltb}
-use lib.ListN.{length, getD}
-use Rattle.std.proofs.shelf.Tests.{cond-true, lt-ltb, ltb-true, and-parts}
+use lib.ListN.{getD}
+use Rattle.std.proofs.shelf.Tests.{ltb-true, and-parts}
 use Rattle.calculus.specs.Countings.{Operations, Laws}
 use Rattle.calculus.specs.Lists.{_∈_, here, there, extend}
-use Rattle.calculus.specs.Joins.{amount-if, rights}
+use Rattle.calculus.specs.Joins.{amount-if}
 use Rattle.calculus.specs.Labels.{Label, one}
-use Rattle.calculus.specs.Types.{Name, Item, name, index, public, pure, fill-index, required, entries-at, Same-type, same-public, same-channel}
+use Rattle.calculus.specs.Types.{Name, Item, name, index, public, pure, required, Same-type, same-public, same-channel}
 use Rattle.calculus.specs.Scopes.{Scope, in-scope, Well-formed, Well-formed-inside, push}
 use Rattle.calculus.specs.Processes.{stop, send, receive, both, test, begin, end}
 use Rattle.calculus.specs.Effects.{_≟_, amount}
@@ -25,14 +24,9 @@ use Rattle.calculus.specs.Safety.{Start}
 use Rattle.calculus.specs.Built.{parts, once}
 use Rattle.calculus.specs.Worked.{worked-free, acknowledges, worked-types, asks, grants, worked, worked-start, Works}
 use Rattle.calculus.specs.Theorems.{Nothing-empty}
-use Rattle.calculus.proofs.Joins.{if-yes, neutral-left, join-zero, lack-zero, lack-self}
+use Rattle.calculus.proofs.Joins.{neutral-left, join-zero, lack-zero, lack-self}
 use Rattle.calculus.proofs.Typing.{acceptance-agrees}
 use Rattle.calculus.proofs.Built.{parts-laws, once-laws}
-
--- an index of the level that is filled becomes the argument
-filled-here : (ys : List Name) (k p : ℕ) → p < length ys → (d : Dec (k ≡ k)) → fill-index ys k k p d ≡ name (getD ys p 0)
-filled-here ys k p h (yes e) = cond-true (ltb p (length ys)) (name (getD ys p 0)) (index k p) (lt-ltb p (length ys) h)
-filled-here ys k p h (no n) = absurd (n refl)
 
 module _ (K : Operations) (W : Laws K) where
   acknowledged : (L : Label Name) → amount K (worked-types K) (receive 4 [] (end (one 3) stop)) L ≡ 0
@@ -63,9 +57,7 @@ module _ (K : Operations) (W : Laws K) where
     where
       go : (i : ℕ) → i < 2 → Same-type K (worked-types K (getD (y ∷ z ∷ []) i 0)) (required (worked-types K 2) (y ∷ z ∷ []) i)
       go zero h = subst (λ t. Same-type K t public) (sym p) same-public
-      go (suc zero) h = subst (λ t. Same-type K t (required (worked-types K 2) (y ∷ z ∷ []) 1)) (sym q)
-          (same-channel refl (λ i l. absurd (omega arith))
-          (λ L. ap (λ x. entries-at K (record { label = one x; amount = K .full } ∷ []) L) (sym (filled-here (y ∷ []) 1 0 (omega arith) (ℕ-discrete 1 1)))))
+      go (suc zero) h = subst (λ t. Same-type K t (required (worked-types K 2) (y ∷ z ∷ []) 1)) (sym q) (same-channel refl (λ i l. absurd (omega arith)) (λ L. refl))
       go (suc (suc i)) h = absurd (omega arith)
 
   acknowledge-use : (x : Name) (item : Item) → worked-types K x ≡ acknowledges K item → Channel-use K (worked-types K) x []
@@ -169,8 +161,8 @@ works K W = record {
       (step-new here here)) (step-both here here here))
       (meet (there here) (there here) refl refl here)) (step-equal here refl here)) (step-begin here here))
       (meet here here refl refl here))
-      (step-end here (subst (λ (n : ℕ). rights K 1 ≤ rights K (n + 0)) (sym (if-yes (one 0 ≟ one 0) 1 refl)) (le-refl _)) here);
-  ended = ap (λ n. n + 0) (if-yes (one 0 ≟ one 0) 1 refl);
+      (step-end here (le-refl _) here);
+  ended = refl;
 }
 
 -- the theorem

@@ -1,14 +1,13 @@
 -- Effects: how much of the right to end each label; the effect that a channel carries, and the least amount that a process needs.
 use mathlib.Core.Path.{_≡_}
-use mathlib.Core.HLevel.{Discrete}
 use mathlib.Core.List.{List}
 use mathlib.Core.Bool.{false}
 use Prim.Native.Nat.{ℕ, _≤_, max}
-use native.Mathlib.Decide.{ℕ-discrete}
 use lib.ListN.{getD}
 use Rattle.calculus.specs.Countings.{Operations}
 use Rattle.calculus.specs.Joins.{amount-if, join-over}
-use Rattle.calculus.specs.Labels.{Label, map-label, label-discrete}
+use Rattle.calculus.specs.Equality.{decide, number-test}
+use Rattle.calculus.specs.Labels.{Label, map-label, label-test}
 use Rattle.calculus.specs.Types.{Name, Item, name, index, NameType, pure, public, channel, Assignment}
 use Rattle.calculus.specs.Scopes.{Scope, label-in-scope}
 use Rattle.calculus.specs.Processes.{Process, stop, send, receive, both, copy, new, test, begin, end}
@@ -19,8 +18,8 @@ Effect = Label Name → ℕ
 
 -- equality of labels of names, and of labels of values
 infix 45 _≟_
-abbrev pub _≟_ : Discrete (Label ℕ)
-L ≟ M = label-discrete ℕ-discrete L M
+abbrev pub _≟_ : (L M : Label ℕ) → Dec (L ≡ M)
+L ≟ M = decide (label-test number-test) L M
 
 -- nothing at any label
 abbrev pub empty : Effect

@@ -1,7 +1,9 @@
 -- Labels: what permissions are given for. A label has one to four items; the items are names, values, or items of a type's entry.
-use mathlib.Core.Path.{_≡_, refl, sym, _∙_, ap}
-use mathlib.Core.HLevel.{Discrete}
-use mathlib.Core.List.{List, [], _∷_, List-discrete}
+use mathlib.Core.Path.{_≡_, refl, sym, _∙_, ap, ap₂}
+use mathlib.Core.List.{List, [], _∷_}
+use mathlib.Core.Bool.{true, false}
+use Rattle.std.proofs.shelf.Tests.{and-parts, and-from, both-ways}
+use Rattle.calculus.specs.Equality.{Test, same-members}
 
 -- a label of items of any kind
 pub data Label (A : Type 0) : Type 0 where
@@ -44,10 +46,25 @@ of-items-items other (four a b c d) = refl
 pub items-determine : {A : Type 0} (L M : Label A) → items L ≡ items M → L ≡ M
 items-determine L M e = sym (of-items-items L L) ∙ ap (of-items L) e ∙ of-items-items L M
 
--- where equality of items is decided, equality of labels is
-pub label-discrete : {A : Type 0} → Discrete A → Discrete (Label A)
-label-discrete d L M = decide (List-discrete d (items L) (items M))
-  where
-    decide : Dec (items L ≡ items M) → Dec (L ≡ M)
-    decide (yes e) = yes (items-determine L M e)
-    decide (no n) = no (λ e. n (ap items e))
+-- equal items, by the test of items
+members-sound : {A : Type 0} (t : Test A) (l m : List A) → same-members (t .same) l m ≡ true → l ≡ m
+members-sound t [] [] h = refl
+members-sound t [] (y ∷ m) h = absurd (both-ways false refl h)
+members-sound t (x ∷ l) [] h = absurd (both-ways false refl h)
+members-sound t (x ∷ l) (y ∷ m) h = let k = and-parts (t .same x y) (same-members (t .same) l m) h in ap₂ _∷_ (t .sound x y (k .0)) (members-sound t l m (k .1))
+
+-- a list has the same members as itself
+members-reflexive : {A : Type 0} (t : Test A) (l : List A) → same-members (t .same) l l ≡ true
+members-reflexive t [] = refl
+members-reflexive t (x ∷ l) = and-from (t .same x x) (same-members (t .same) l l) (t .reflexive x) (members-reflexive t l)
+
+-- what the test of labels finds equal is equal, and a label it finds equal to itself
+pub label-sound : {A : Type 0} (t : Test A) (L M : Label A) → same-members (t .same) (items L) (items M) ≡ true → L ≡ M
+label-sound t L M h = items-determine L M (members-sound t (items L) (items M) h)
+
+pub label-reflexive : {A : Type 0} (t : Test A) (L : Label A) → same-members (t .same) (items L) (items L) ≡ true
+label-reflexive t L = members-reflexive t (items L)
+
+-- the test of labels, item by item
+abbrev pub label-test : {A : Type 0} → Test A → Test (Label A)
+label-test t = record { same = λ L M. same-members (t .same) (items L) (items M); sound = label-sound t; reflexive = label-reflexive t }

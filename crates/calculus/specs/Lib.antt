@@ -2,6 +2,7 @@
 pub mod Countings
 pub mod Lists
 pub mod Joins
+pub mod Equality
 pub mod Labels
 pub mod Orders
 pub mod Types

@@ -1,16 +1,15 @@
 -- Types of names: pure, public, or a channel with an effect; arguments put into a type; equality of types.
-use mathlib.Core.Path.{_≡_, ap, ap₂}
-use mathlib.Core.HLevel.{Discrete}
+use mathlib.Core.Path.{_≡_, refl, ap, ap₂}
 use mathlib.Core.List.{List, map}
-use mathlib.Core.Bool.{cond}
+use mathlib.Core.Bool.{Bool, true, false, cond, _&&_}
 use Prim.Native.Nat.{ℕ, suc, _<_}
-use native.Mathlib.Decide.{ℕ-discrete}
-use native.Mathlib.Omega.{arith}
-use lib.Dec.{ltb}
+use lib.Dec.{ltb, eqb}
 use lib.ListN.{length, getD, take}
+use Rattle.std.proofs.shelf.Tests.{and-parts, and-from, both-ways, eqb-true, eq-eqb}
 use Rattle.calculus.specs.Countings.{Operations}
 use Rattle.calculus.specs.Joins.{amount-if, join-over}
-use Rattle.calculus.specs.Labels.{Label, map-label, label-discrete}
+use Rattle.calculus.specs.Equality.{Test, decide, number-test}
+use Rattle.calculus.specs.Labels.{Label, map-label, label-test}
 
 -- names are numbers
 abbrev pub Name : Type 0
@@ -49,7 +48,7 @@ fill-index ys level u p (no e) = index u p
 -- arguments put into an item, for the indices of one level
 abbrev pub fill-item : List Name → ℕ → Item → Item
 fill-item ys level (name x) = name x
-fill-item ys level (index u p) = fill-index ys level u p (ℕ-discrete u level)
+fill-item ys level (index u p) = fill-index ys level u p (decide number-test u level)
 
 -- arguments put into an entry
 abbrev pub fill-entry : List Name → ℕ → Entry → Entry
@@ -68,24 +67,31 @@ required pure ys i = pure
 required public ys i = public
 required (channel n components entries) ys i = fill-type (take i ys) 1 (components i)
 
--- equality of items is decided
-pub item-discrete : Discrete Item
-item-discrete (name x) (name y) = elim (ℕ-discrete x y) [ yes e ↦ yes (ap name e) | no n ↦ no (λ e. n (cc)) ]
-item-discrete (name x) (index v q) = no (λ e. let z : _≡_ {A = ℕ} 0 1 = cc in omega arith)
-item-discrete (index u p) (name y) = no (λ e. let z : _≡_ {A = ℕ} 0 1 = cc in omega arith)
-item-discrete (index u p) (index v q) =
-    elim (ℕ-discrete u v) [
-      | yes e ↦ elim (ℕ-discrete p q) [ yes f ↦ yes (ap₂ index e f) | no n ↦ no (λ h. n (cc)) ]
-      | no n ↦ no (λ h. n (cc))
-    ]
+-- the test of items
+abbrev pub same-item : Item → Item → Bool
+same-item (name x) (name y) = eqb x y
+same-item (name x) (index v q) = false
+same-item (index u p) (name y) = false
+same-item (index u p) (index v q) = eqb u v && eqb p q
 
--- equality of labels of items
-abbrev pub entry-label-discrete : Discrete (Label Item)
-entry-label-discrete = label-discrete item-discrete
+-- what it finds equal is equal, and an item it finds equal to itself
+pub item-sound : (a b : Item) → same-item a b ≡ true → a ≡ b
+item-sound (name x) (name y) h = ap name (eqb-true x y h)
+item-sound (name x) (index v q) h = absurd (both-ways false refl h)
+item-sound (index u p) (name y) h = absurd (both-ways false refl h)
+item-sound (index u p) (index v q) h = let k = and-parts (eqb u v) (eqb p q) h in ap₂ index (eqb-true u v (k .0)) (eqb-true p q (k .1))
+
+pub item-reflexive : (a : Item) → same-item a a ≡ true
+item-reflexive (name x) = eq-eqb x x refl
+item-reflexive (index u p) = and-from (eqb u u) (eqb p p) (eq-eqb u u refl) (eq-eqb p p refl)
+
+-- so it decides equality of items
+abbrev pub item-test : Test Item
+item-test = record { same = same-item; sound = item-sound; reflexive = item-reflexive }
 
 -- the amount that entries give a label: amounts of equal labels are joined
 abbrev pub entries-at : Operations → List Entry → Label Item → ℕ
-entries-at K entries L = join-over K entries (λ e. amount-if (entry-label-discrete (e .label) L) (e .amount))
+entries-at K entries L = join-over K entries (λ e. amount-if (decide (label-test item-test) (e .label) L) (e .amount))
 
 -- types are equal when kind, count, components in turn and effects at every label are
 pub data Same-type (K : Operations) : NameType → NameType → Type 0 where
