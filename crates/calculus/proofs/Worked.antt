@@ -21,6 +21,7 @@ use Rattle.calculus.specs.Typing.{Channel-use, Well-formed-in-turn, Accepted}
 use Rattle.calculus.specs.Checks.{Checks}
 use Rattle.calculus.specs.Reduction.{at-once, after, step-both, step-copy, step-new, step-equal, step-begin, step-end, meet, feed}
 use Rattle.calculus.specs.Safety.{Start}
+use Rattle.calculus.specs.Ceiling.{Entries-small}
 use Rattle.calculus.specs.Built.{parts, once}
 use Rattle.calculus.specs.Worked.{worked-free, acknowledges, worked-types, asks, grants, worked, worked-start, Works}
 use Rattle.calculus.specs.Theorems.{Nothing-empty}
@@ -128,6 +129,16 @@ module _ (K : Operations) (W : Laws K) where
     ((asks-checked, λ L. copied _ (asks-nothing L)), (grants-checked, λ L. copied _ (grants-nothing L))),
   )
 
+  entries-small : (x : Name) → Entries-small K (worked-types K x)
+  entries-small zero = tt
+  entries-small (suc zero) = tt
+  entries-small (suc (suc zero)) = (omega arith, tt)
+  entries-small (suc (suc (suc zero))) = tt
+  entries-small (suc (suc (suc (suc zero)))) = (omega arith, (W .full-entry, tt))
+  entries-small (suc (suc (suc (suc (suc zero))))) = tt
+  entries-small (suc (suc (suc (suc (suc (suc zero)))))) = (omega arith, (W .full-entry, tt))
+  entries-small (suc (suc (suc (suc (suc (suc (suc x))))))) = tt
+
   free-public : (x : Name) → in-scope worked-free x ≡ true → worked-types K x ≡ public
   free-public zero s = refl
   free-public (suc zero) s = refl
@@ -151,6 +162,7 @@ worked-starts = record {
 works : (K : Operations) → Laws K → Works K
 works K W = record {
   laws = W;
+  small = entries-small K W;
   accepted = worked-accepted K W;
   start = worked-starts;
   last = _;

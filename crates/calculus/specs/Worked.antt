@@ -5,12 +5,13 @@ use lib.Dec.{ltb}
 use lib.ListN.{getD}
 use Rattle.calculus.specs.Countings.{Operations, Laws}
 use Rattle.calculus.specs.Labels.{one}
-use Rattle.calculus.specs.Types.{Item, name, index, NameType, pure, public, channel, Assignment}
+use Rattle.calculus.specs.Types.{Name, Item, name, index, NameType, pure, public, channel, Assignment}
 use Rattle.calculus.specs.Scopes.{Scope}
 use Rattle.calculus.specs.Processes.{Process, stop, send, receive, both, copy, new, test, begin, end}
 use Rattle.calculus.specs.Typing.{Accepted}
 use Rattle.calculus.specs.Reduction.{thread, Configuration, Reachable}
 use Rattle.calculus.specs.Safety.{Start}
+use Rattle.calculus.specs.Ceiling.{Entries-small}
 
 -- the names, by number: 0 a block, 1 the panel on which the outsider asks, 2 the channel to the station, 3 what was asked, 4 its acknowledgement,
 -- 5 what the station hears, 6 where it acknowledges. 0 and 1 are free
@@ -43,9 +44,11 @@ worked = new 2 (both (copy asks) (copy grants))
 abbrev pub worked-start : Configuration
 worked-start = record { threads = thread worked (λ x. x) ∷ []; next = 2; known = λ v. ltb v 2; made = (0, 0) ∷ (1, 1) ∷ []; begins = λ M. 0; ends = λ M. 0 }
 
--- under the counting K: K keeps the laws, the process is accepted, it may start there, and a run reaches an end of the label of the value 0
+-- under the counting K: K keeps the laws, the entries are few and small, the process is accepted, it may start there, and a run reaches
+-- an end of the label of the value 0
 pub record Works (K : Operations) : Type 0 where
   pub laws : Laws K
+  pub small : (x : Name) → Entries-small K (worked-types K x)
   pub accepted : Accepted K (worked-types K) worked-free worked
   pub start : Start worked-free worked worked-start
   pub last : Configuration
