@@ -8,7 +8,7 @@ use Rattle.std.specs.declared.result.Result.{Result}
 use Rattle.std.specs.declared.result.Result.the-variants.{Ok, Err}
 use Rattle.fault.specs.declared.fault.Fault.{Fault}
 use Rattle.fault.specs.declared.fault.Fault.the-variants.{WrongOrder}
-use Rattle.counting.specs.Built as built
+use Rattle.calculus.specs.Built as built
 use Rattle.sheet.specs.Elements.{elements}
 use Rattle.sheet.specs.Opening.{Means, basis-of}
 use Rattle.sheet.specs.declared.basis.Basis.{Basis}

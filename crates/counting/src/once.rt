@@ -1,6 +1,6 @@
 //! Once: a right is there or it is not, and joining takes the larger.
 ghost use mathlib.Core.Path.{_≡_};
-ghost use Rattle.counting.specs.Built.{once};
+ghost use Rattle.calculus.specs.Built.{once};
 use crate::Counting;
 
 /// A right is there or it is not: the only amounts are 0 and 1, and having it twice is having it once.

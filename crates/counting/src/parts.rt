@@ -2,7 +2,7 @@
 ghost use mathlib.Core.Path.{_≡_};
 ghost use Prim.Native.Nat.{_≤_};
 ghost use Rattle.std.specs.Results.{Cases};
-ghost use Rattle.counting.specs.Built.{parts};
+ghost use Rattle.calculus.specs.Built.{parts};
 ghost use Rattle.fault.specs.declared.fault.Fault.the-variants.{OutOfRange};
 use crate::Counting;
 use fault::Fault;

@@ -3,7 +3,7 @@ use Prim.Native.Nat.{_≤_}
 use native.Mathlib.Omega.{arith}
 use Rattle.std.specs.Of.String.{string-bytes}
 use Rattle.std.proofs.shelf.Results.{made-weaker}
-use Rattle.counting.specs.Built as built
+use Rattle.calculus.specs.Built as built
 use Rattle.sheet.specs.Opening.{basis-of}
 use Rattle.bench.specs.Answer.{Answers, By, basis}
 use Rattle.bench.proofs.answer.line_for.Needs as need

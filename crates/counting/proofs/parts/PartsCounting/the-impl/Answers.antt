@@ -1,18 +1,5 @@
-use native.Mathlib.Omega.{arith}
-use Rattle.counting.proofs.Bounds.{parts-bound}
+use Rattle.calculus.proofs.Built.{parts-laws}
 use Rattle.counting.proofs.parts.PartsCounting.the-impl.Needs as need
 
 pub lawful-law : need.lawful-law
-lawful-law c = record {
-  commutative = λ a b. omega arith;
-  associative = λ a b c. omega arith;
-  neutral = λ a. omega arith;
-  monotone = λ a b c h. omega arith;
-  lack-covers = λ a b c h. omega arith;
-  lack-least = λ a b c h. omega arith;
-  full-some = omega arith;
-  full-entry = omega arith;
-  entry-ceiling = omega arith;
-  ceiling-fits = omega arith;
-  bounded = λ amounts few small. omega (arith, parts-bound (c .full) amounts small);
-}
+lawful-law p = parts-laws (p .full) (p .some) (p .fits)
