@@ -39,8 +39,7 @@ impl<T: Copy, const N: usize> Table<T, N> {
         ensures value { λ r. ⌜ r ≡ length (elements (now (self .entry))) ⌝ }
         ensures within { λ r. ⌜ r ≤ N ⌝ }
     {
-        let all = &self.items[..];
-        self.count.min(all.len())
+        self.as_slice().len()
     }
 
     /// The last thing, or none.
