@@ -13,6 +13,8 @@ use std::io::Read;
 
 mod choice;
 mod lines;
+#[cfg(test)]
+mod tests;
 
 /// The most bytes that a sheet may have.
 const LIMIT: usize = 16384;

@@ -18,3 +18,6 @@ pub use tables::Tables;
 pub use tuple::Tuple;
 pub use types::first_misformed;
 pub use types::same_label;
+
+#[cfg(test)]
+mod tests;
