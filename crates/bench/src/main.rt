@@ -22,6 +22,8 @@ const LIMIT: usize = 16384;
 /// One byte more than a sheet may have, which tells that an input is longer.
 const PAST: usize = LIMIT + 1;
 
+/// Reads the input and prints its line. Only a failed read, a failed write or a want of memory ends with another
+/// status than 0.
 fn main(rt: LibcRuntime) -> io::Result<()> {
     let mut buffer = [0; PAST];
     let mut input = rt.stdin();
