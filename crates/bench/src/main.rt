@@ -8,10 +8,14 @@ use std::io::Read;
 mod answer;
 mod choice;
 mod lines;
+#[cfg(test)]
+mod tests;
 
 /// One byte more than a sheet may have, which tells that an input is longer.
 const PAST: usize = answer::LIMIT + 1;
 
+/// Reads the input and prints its line. Only a failed read, a failed write or a want of memory ends with another
+/// status than 0.
 fn main(rt: LibcRuntime) -> io::Result<()> {
     let mut buffer = [0; PAST];
     let mut input = rt.stdin();

@@ -6,7 +6,7 @@ use Rattle.sheet.proofs.Labelling.{refuted}
 use Rattle.sheet.proofs.types.first_misformed.Needs as need
 
 pub returns-then-is-misformed : need.returns-then-is-misformed
-returns-then-is-misformed c = (c .loop-at-test .taken, c .if-is-misformed .ensures tt .0 refl, c .loop-at .inv)
+returns-then-is-misformed c = (omega arith, c .if-is-misformed .ensures tt .0 refl, c .loop-at .inv)
 
 pub loop-at-again : need.loop-at-again
 loop-at-again c = below-more (λ j. Misformed (c .args .types .now) j → ⊥) (c .loop-at .at) (c .loop-at .inv) (refuted (c .if-is-misformed .ensures tt))
