@@ -9,10 +9,10 @@ use Rattle.std.specs.declared.result.Result.the-variants.{Ok, Err}
 use Rattle.fault.specs.declared.fault.Fault.{Fault}
 use Rattle.fault.specs.declared.fault.Fault.the-variants.{WrongOrder}
 use Rattle.calculus.specs.Built as built
-use Rattle.sheet.specs.Elements.{elements}
+use Rattle.tables.specs.Elements.{elements}
 use Rattle.sheet.specs.Opening.{Means, basis-of}
-use Rattle.sheet.specs.declared.basis.Basis.{Basis}
-use Rattle.sheet.specs.declared.tables.Tables.{Tables}
+use Rattle.tables.specs.declared.basis.Basis.{Basis}
+use Rattle.tables.specs.declared.tables.Tables.{Tables}
 use Rattle.bench.specs.Choice.{Choice, parts, once, choice}
 use Rattle.bench.specs.Lines.{refused, opened}
 

@@ -9,22 +9,22 @@ use lib.Dec.{ltb}
 use Rattle.std.specs.Joined.{joined}
 use Rattle.std.proofs.shelf.Lists.{append-nil, map-push, nil-from-length, joined-more}
 use Rattle.std.proofs.shelf.Tests.{and-parts, and-from, lt-ltb}
-use Rattle.sheet.specs.Elements.{elements}
-use Rattle.sheet.specs.Encoding.{parts, spread, entry-record, type-records, node-record, body}
-use Rattle.sheet.specs.Range.{Totals, all, all-from, below, type-fits, entry-fits, node-fits, ranged, Fits, fits-pure, fits-public, fits-channel, fits-entry, fits-name, fits-node}
+use Rattle.tables.specs.Elements.{elements}
+use Rattle.tables.specs.Encoding.{parts, spread, entry-record, type-records, node-record, body}
+use Rattle.tables.specs.Range.{Totals, all, all-from, below, type-fits, entry-fits, node-fits, ranged, Fits, fits-pure, fits-public, fits-channel, fits-entry, fits-name, fits-node}
 use Rattle.sheet.specs.Order.{class-of, misplaced}
 use Rattle.sheet.specs.Filling.{LastChannel, Grown, grown-type, grown-entry, grown-name, grown-node}
-use Rattle.sheet.specs.declared.basis.Basis.{Basis}
+use Rattle.tables.specs.declared.basis.Basis.{Basis}
 use Rattle.sheet.specs.declared.census.Census.{Census}
 use Rattle.sheet.specs.declared.census.Class.the-variants as class
-use Rattle.sheet.specs.declared.record.Record.{Record}
-use Rattle.sheet.specs.declared.record.Record.the-variants as raw
-use Rattle.sheet.specs.declared.tables.ChannelType.{ChannelType}
-use Rattle.sheet.specs.declared.tables.Entry.{Entry}
-use Rattle.sheet.specs.declared.tables.SheetType.{SheetType}
-use Rattle.sheet.specs.declared.tables.SheetType.the-variants.{Pure, Public, Channel}
-use Rattle.sheet.specs.declared.tables.Node.{Node}
-use Rattle.sheet.specs.declared.tables.Tables.{Tables}
+use Rattle.records.specs.declared.record.Record.{Record}
+use Rattle.records.specs.declared.record.Record.the-variants as raw
+use Rattle.tables.specs.declared.tables.ChannelType.{ChannelType}
+use Rattle.tables.specs.declared.tables.Entry.{Entry}
+use Rattle.tables.specs.declared.tables.SheetType.{SheetType}
+use Rattle.tables.specs.declared.tables.SheetType.the-variants.{Pure, Public, Channel}
+use Rattle.tables.specs.declared.tables.Node.{Node}
+use Rattle.tables.specs.declared.tables.Tables.{Tables}
 use Rattle.sheet.proofs.Matching.{Matches, type-placed, entry-placed, name-placed, first-of}
 
 -- tests of a list that has one element more

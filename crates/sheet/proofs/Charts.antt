@@ -14,15 +14,15 @@ use Rattle.std.proofs.shelf.Lists.{getD-past}
 use Rattle.std.proofs.shelf.Tests.{both-ways, ltb-true, and-parts, cases-lt, cases-bool, false≢true}
 use Rattle.std.proofs.shelf.Ways.{tells, not-from-decides}
 use Rattle.fault.specs.First.{Lowest}
-use Rattle.sheet.specs.Encoding.{parts}
-use Rattle.sheet.specs.Range.{all, below, node-fits}
+use Rattle.tables.specs.Encoding.{parts}
+use Rattle.tables.specs.Range.{all, below, node-fits}
 use Rattle.sheet.specs.Tree.{children, node-at, misgrown}
 use Rattle.sheet.specs.Scope.{member, repeats, binds, uses, Below, Misnamed, Any, Holders, Over, Taken, Outside, Charted}
 use Rattle.sheet.specs.Scope.Below.{child, further}
 use Rattle.sheet.specs.Scope.Over.{nearest, beyond}
 use Rattle.sheet.specs.Scope.Misnamed.{binds-twice, bound-already, out-of-scope}
-use Rattle.sheet.specs.declared.tables.Node.{Node}
-use Rattle.sheet.specs.declared.tables.Node.the-variants.{Stop, Send, Receive, Both, Copy, New, Test, Begin, End}
+use Rattle.tables.specs.declared.tables.Node.{Node}
+use Rattle.tables.specs.declared.tables.Node.the-variants.{Stop, Send, Receive, Both, Copy, New, Test, Begin, End}
 use Rattle.sheet.proofs.Parents.{all-member, placed, higher, one-parent}
 
 -- what passes of each node passes of the one at a place

@@ -13,15 +13,15 @@ use Rattle.std.proofs.shelf.Tests.{and-parts, cases-lt}
 use Rattle.fault.specs.First.{First, Precedes, Lowest}
 use Rattle.fault.specs.declared.fault.Fault.{Fault}
 use Rattle.fault.specs.declared.fault.Fault.the-variants.{NotATree, OutOfScope, BadType}
-use Rattle.sheet.specs.Elements.{elements}
-use Rattle.sheet.specs.Encoding.{type-records}
-use Rattle.sheet.specs.Range.{all, all-from, below, type-fits, node-fits, ranged, totals}
+use Rattle.tables.specs.Elements.{elements}
+use Rattle.tables.specs.Encoding.{type-records}
+use Rattle.tables.specs.Range.{all, all-from, below, type-fits, node-fits, ranged, totals}
 use Rattle.sheet.specs.Tree.{misgrown}
 use Rattle.sheet.specs.Scope.{Misnamed}
 use Rattle.sheet.specs.Types.{Misformed}
 use Rattle.sheet.specs.Opening.{type-place, node-place, Crooked, not-a-tree, out-of-scope, bad-type}
-use Rattle.sheet.specs.declared.tables.SheetType.{SheetType}
-use Rattle.sheet.specs.declared.tables.Tables.{Tables}
+use Rattle.tables.specs.declared.tables.SheetType.{SheetType}
+use Rattle.tables.specs.declared.tables.Tables.{Tables}
 
 -- the records of one type more
 pub records-more : (xs : List SheetType) (i : ℕ) (x : SheetType) (n k : ℕ) → i < length xs → x ≡ getD xs i x → n ≡ length (joined type-records (take i xs)) → k ≡ length (type-records x) → n + k ≡ length (joined type-records (take (i + 1) xs))

@@ -5,29 +5,27 @@ use mathlib.Core.List.{List, [], _∷_, _++_, map}
 use Prim.Native.Nat.{ℕ, _-_, _<_, _≤_}
 use native.Mathlib.Omega.{arith}
 use lib.ListN.{length, getD}
-use denote.Ref.{RefT}
-use Rattle.std.specs.Options.{mapped}
-use Rattle.std.specs.Places.{Item}
 use Rattle.std.specs.Orderings.{When}
 use Rattle.std.specs.declared.option.Option.{Option}
 use Rattle.std.specs.declared.option.Option.the-variants.{Some, None}
 use Rattle.std.proofs.shelf.Tests.{both-ways}
 use Rattle.fault.specs.Items.{list}
-use Rattle.sheet.specs.Elements.{elements, last-of}
-use Rattle.sheet.specs.Encoding.{parts, spread, item-byte, entry-record}
-use Rattle.sheet.specs.Decoding.{tuple-of, entry-of}
-use Rattle.sheet.specs.Range.{Totals, below, entry-fits}
+use Rattle.tables.specs.Elements.{elements, last-of}
+use Rattle.tables.specs.Encoding.{parts, spread, item-byte, entry-record}
+use Rattle.tables.specs.Decoding.{tuple-of, entry-of}
+use Rattle.tables.specs.Range.{Totals, below, entry-fits}
 use Rattle.sheet.specs.Filling.{NoEntryFits, LastChannel, channel-in, last-channel}
-use Rattle.sheet.specs.declared.basis.Basis.{Basis}
-use Rattle.sheet.specs.declared.record.Quad.{Quad}
-use Rattle.sheet.specs.declared.record.Record.the-variants as raw
-use Rattle.sheet.specs.declared.tuple.Tuple.{Tuple}
-use Rattle.sheet.specs.declared.tables.Entry.{Entry}
-use Rattle.sheet.specs.declared.tables.ChannelType.{ChannelType}
-use Rattle.sheet.specs.declared.tables.SheetType.{SheetType}
-use Rattle.sheet.specs.declared.tables.SheetType.the-variants.{Channel}
-use Rattle.sheet.specs.declared.tables.Tables.{Tables}
-use Rattle.sheet.proofs.Decoded.{tuple-back, entry-back}
+use Rattle.tables.specs.declared.basis.Basis.{Basis}
+use Rattle.records.specs.declared.record.Quad.{Quad}
+use Rattle.records.specs.declared.record.Record.the-variants as raw
+use Rattle.tables.specs.declared.tuple.Tuple.{Tuple}
+use Rattle.tables.specs.declared.tables.Entry.{Entry}
+use Rattle.tables.specs.declared.tables.ChannelType.{ChannelType}
+use Rattle.tables.specs.declared.tables.SheetType.{SheetType}
+use Rattle.tables.specs.declared.tables.SheetType.the-variants.{Channel}
+use Rattle.tables.specs.declared.tables.Tables.{Tables}
+use Rattle.tables.proofs.Decoded.{tuple-back, entry-back}
+use Rattle.tables.proofs.Tabled.{last-push}
 
 -- from what a test tells to what is told of it
 pub when-so : {A B : Type 0} (P Q : Type 0) (r : Bool) → When r A B → (A → P) → (B → Q) → When r P Q
@@ -59,27 +57,6 @@ module _ (b : Basis) (n : Totals) (few : n .names ≤ 64) where
 
   pub other-entry : (amount : ℕ) (q : Quad) (y : Entry) → Some y ≡ entry-of amount q → false ≡ entry-fits (b .largest) (n .names) y → NoEntryFits b n (raw.Entry amount q)
   other-entry amount q y e g x h s = other-got (entry-fits (b .largest) (n .names)) _ y x e (entry-got amount q x h s) g h
-
--- the last of a list that ends so
-pub last-push : {X : Type 0} (xs : List X) (x : X) → last-of (xs ++ x ∷ []) ≡ Some x
-last-push [] x = refl
-last-push (a ∷ []) x = refl
-last-push (a ∷ b ∷ xs) x = last-push (b ∷ xs) x
-
--- the last element by its number
-pub last-at : {X : Type 0} (xs : List X) (d : X) → 0 < length xs → last-of xs ≡ Some (getD xs (length xs - 1) d)
-last-at [] d l = absurd (omega arith)
-last-at (x ∷ []) d l = refl
-last-at (x ∷ y ∷ xs) d l =
-    let e : length (x ∷ y ∷ xs) - 1 ≡ length (y ∷ xs) = omega arith in
-    let f : length (y ∷ xs) - 1 ≡ length xs = omega arith in
-    last-at (y ∷ xs) d (omega arith) ∙ ap (λ i. Some (getD (y ∷ xs) i d)) f ∙ sym (ap (λ i. Some (getD (x ∷ y ∷ xs) i d)) e)
-
--- the last element as a slice gives it
-pub last-given : {X : Type 0} (xs : List X) (r : Option (RefT X)) → Item xs 0 (length xs - 1) r → mapped (λ x. x .now) r ≡ last-of xs
-last-given [] None h = refl
-last-given (x ∷ xs) None h = absurd (omega (arith, h .3))
-last-given xs (Some x) h = sym (last-at xs (x .now) (h .3 .0) ∙ ap Some (sym (h .1)))
 
 pub last-channel-is : (t : Tables) (before : List SheetType) (c : ChannelType) → LastChannel t before c → last-channel t ≡ Some c
 last-channel-is t before c h = ap (λ xs. channel-in (last-of xs)) (h .last) ∙ ap channel-in (last-push before (Channel c))

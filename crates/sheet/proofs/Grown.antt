@@ -11,10 +11,10 @@ use Rattle.std.specs.declared.option.Option.{Option}
 use Rattle.std.specs.declared.option.Option.the-variants.{Some, None}
 use Rattle.std.proofs.shelf.Sums.{sumBy-more, sumBy-append, countBy-le-length}
 use Rattle.std.proofs.shelf.Tests.{both-ways}
-use Rattle.sheet.specs.Range.{all}
+use Rattle.tables.specs.Range.{all}
 use Rattle.sheet.specs.Tree.{children, node-at, times, named, misgrown}
-use Rattle.sheet.specs.declared.tables.Node.{Node}
-use Rattle.sheet.specs.declared.tables.Node.the-variants.{Stop}
+use Rattle.tables.specs.declared.tables.Node.{Node}
+use Rattle.tables.specs.declared.tables.Node.the-variants.{Stop}
 
 pub times-one : (k : ℕ) (o : Option ℕ) → times k (listOf o) ≤ 1
 times-one k None = omega arith

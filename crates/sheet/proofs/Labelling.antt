@@ -13,11 +13,12 @@ use Rattle.fault.specs.declared.label.Label.{Label}
 use Rattle.sheet.specs.Labels.{Labelled, Repeated}
 use Rattle.sheet.specs.Labels.Labelled.{labelled}
 use Rattle.sheet.specs.Labels.Repeated.{repeated}
-use Rattle.sheet.specs.Types.{Misformed, nests, entries, type-at}
+use Rattle.tables.specs.Channels.{entries}
+use Rattle.sheet.specs.Types.{Misformed, nests, type-at}
 use Rattle.sheet.specs.Types.Misformed.{same-label, too-deep}
-use Rattle.sheet.specs.declared.tables.Entry.{Entry}
-use Rattle.sheet.specs.declared.tables.Item.{Item}
-use Rattle.sheet.specs.declared.tables.SheetType.{SheetType}
+use Rattle.tables.specs.declared.tables.Entry.{Entry}
+use Rattle.tables.specs.declared.tables.Item.{Item}
+use Rattle.tables.specs.declared.tables.SheetType.{SheetType}
 
 -- no entry below number i has the label
 abbrev pub Unlabelled : List Entry → Label Item → ℕ → Type 0

@@ -8,24 +8,24 @@ use lib.ListN.{length}
 use Rattle.std.specs.Joined.{joined}
 use Rattle.std.proofs.shelf.Lists.{append-nil, length-push, map-push, same-from-push}
 use Rattle.std.proofs.shelf.Tests.{or-parts, and-parts, and-from, eqb-false, ltb-false, leb-false}
-use Rattle.sheet.specs.Elements.{elements}
-use Rattle.sheet.specs.Encoding.{parts, spread, entry-record, type-records, node-record, body}
-use Rattle.sheet.specs.Range.{Totals, all, all-from, below, type-fits, entry-fits, node-fits, ranged, Fits, fits-pure, fits-public, fits-channel, fits-entry, fits-name, fits-node}
+use Rattle.tables.specs.Elements.{elements}
+use Rattle.tables.specs.Encoding.{parts, spread, entry-record, type-records, node-record, body}
+use Rattle.tables.specs.Range.{Totals, all, all-from, below, type-fits, entry-fits, node-fits, ranged, Fits, fits-pure, fits-public, fits-channel, fits-entry, fits-name, fits-node}
 use Rattle.sheet.specs.Order.{class-of, misplaced, after}
 use Rattle.sheet.specs.Filling.{LastChannel, Room, Grown, grown-type, grown-entry, grown-name, grown-node}
-use Rattle.sheet.specs.declared.basis.Basis.{Basis}
+use Rattle.tables.specs.declared.basis.Basis.{Basis}
 use Rattle.sheet.specs.declared.census.Census.{Census}
 use Rattle.sheet.specs.declared.census.Class.{Class}
 use Rattle.sheet.specs.declared.census.Class.the-variants as class
-use Rattle.sheet.specs.declared.record.Record.{Record}
-use Rattle.sheet.specs.declared.record.Record.the-variants as raw
-use Rattle.sheet.specs.declared.tables.ChannelType.{ChannelType}
-use Rattle.sheet.specs.declared.tables.Entry.{Entry}
-use Rattle.sheet.specs.declared.tables.SheetType.{SheetType}
-use Rattle.sheet.specs.declared.tables.SheetType.the-variants.{Pure, Public, Channel}
-use Rattle.sheet.specs.declared.tables.Node.{Node}
-use Rattle.sheet.specs.declared.tables.Node.the-variants.{Stop, Send, Receive, Both, Copy, New, Test, Begin, End}
-use Rattle.sheet.specs.declared.tables.Tables.{Tables}
+use Rattle.records.specs.declared.record.Record.{Record}
+use Rattle.records.specs.declared.record.Record.the-variants as raw
+use Rattle.tables.specs.declared.tables.ChannelType.{ChannelType}
+use Rattle.tables.specs.declared.tables.Entry.{Entry}
+use Rattle.tables.specs.declared.tables.SheetType.{SheetType}
+use Rattle.tables.specs.declared.tables.SheetType.the-variants.{Pure, Public, Channel}
+use Rattle.tables.specs.declared.tables.Node.{Node}
+use Rattle.tables.specs.declared.tables.Node.the-variants.{Stop, Send, Receive, Both, Copy, New, Test, Begin, End}
+use Rattle.tables.specs.declared.tables.Tables.{Tables}
 
 -- the census counts what the tables hold
 pub record Matches (c : Census) (t : Tables) : Type 0 where

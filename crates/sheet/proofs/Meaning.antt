@@ -15,16 +15,16 @@ use Rattle.fault.specs.Faults.{numberOf, placeOf}
 use Rattle.fault.specs.First.{First, Precedes}
 use Rattle.fault.specs.declared.fault.Fault.{Fault}
 use Rattle.fault.specs.declared.fault.Fault.the-variants as fault
-use Rattle.sheet.specs.Elements.{elements}
-use Rattle.sheet.specs.Records.{codes, Unreadable}
-use Rattle.sheet.specs.Encoding.{records}
+use Rattle.tables.specs.Elements.{elements}
+use Rattle.records.specs.Records.{codes, Unreadable}
+use Rattle.tables.specs.Encoding.{records}
 use Rattle.sheet.specs.Order.{census, misplaced-at, Ordered, Unfinished, cut, wrong, none}
 use Rattle.sheet.specs.Filling.{FitsAt, Readable, Spells}
 use Rattle.sheet.specs.Opening.{Reading, Crooked, not-a-tree, out-of-scope, bad-type, Faulty, unreadable, wrong-order, no-node, out-of-range, crooked, Sound, Means}
-use Rattle.sheet.specs.declared.basis.Basis.{Basis}
+use Rattle.tables.specs.declared.basis.Basis.{Basis}
 use Rattle.sheet.specs.declared.census.Census.{Census}
-use Rattle.sheet.specs.declared.record.Record.{Record}
-use Rattle.sheet.specs.declared.tables.Tables.{Tables}
+use Rattle.records.specs.declared.record.Record.{Record}
+use Rattle.tables.specs.declared.tables.Tables.{Tables}
 use Rattle.sheet.proofs.Reading.{no-record}
 
 -- faults of tables have the numbers from 4 on

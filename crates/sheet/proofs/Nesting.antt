@@ -8,12 +8,13 @@ use lib.ListN.{length, drop}
 use Rattle.std.specs.declared.option.Option.the-variants.{Some, None}
 use Rattle.fault.specs.Items.{nth}
 use Rattle.fault.specs.declared.items.Items.the-variants.{One, Two, Three, Four}
-use Rattle.sheet.specs.Encoding.{parts}
-use Rattle.sheet.specs.Range.{all}
-use Rattle.sheet.specs.Types.{nests, components, type-at}
-use Rattle.sheet.specs.declared.tables.SheetType.{SheetType}
-use Rattle.sheet.specs.declared.tuple.Tuple.{Tuple}
-use Rattle.sheet.specs.declared.tuple.Tuple.the-variants.{Empty, Of}
+use Rattle.tables.specs.Encoding.{parts}
+use Rattle.tables.specs.Range.{all}
+use Rattle.tables.specs.Channels.{components}
+use Rattle.sheet.specs.Types.{nests, type-at}
+use Rattle.tables.specs.declared.tables.SheetType.{SheetType}
+use Rattle.tables.specs.declared.tuple.Tuple.{Tuple}
+use Rattle.tables.specs.declared.tuple.Tuple.the-variants.{Empty, Of}
 
 pub nth-within : {T : Type 0} (xs : List T) (i : ℕ) (x : T) → Some x ≡ nth xs i → i < length xs
 nth-within [] i x e = let z : _≡_ {A = ℕ} 0 1 = cc in omega arith

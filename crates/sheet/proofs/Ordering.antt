@@ -14,8 +14,8 @@ use Rattle.std.specs.declared.option.Option.the-variants.{Some, None}
 use Rattle.std.specs.Options.{isSome}
 use Rattle.fault.specs.First.{Lowest}
 use Rattle.sheet.specs.Order.{class-of, nothing, misplaced, after, census, misplaced-at, Ordered, Seen}
-use Rattle.sheet.specs.declared.record.Record.{Record}
-use Rattle.sheet.specs.declared.record.Record.the-variants as raw
+use Rattle.records.specs.declared.record.Record.{Record}
+use Rattle.records.specs.declared.record.Record.the-variants as raw
 use Rattle.sheet.specs.declared.census.Census.{Census}
 use Rattle.sheet.specs.declared.census.Scan.{Scan}
 

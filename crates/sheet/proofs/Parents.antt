@@ -10,11 +10,11 @@ use lib.ListN.{length, getD, take}
 use Rattle.std.proofs.shelf.Lists.{getD-past, getD-take, length-take-le}
 use Rattle.std.proofs.shelf.Sums.{sumBy-cons, sumBy-drop-more, sumBy-take-drop, getD-le-sumBy}
 use Rattle.std.proofs.shelf.Tests.{both-ways, not-false, ltb-true, eqb-true, eq-eqb, and-parts, and-cases, or-cases, or-parts, cases-lt, lt-ltb, false≢true}
-use Rattle.sheet.specs.Range.{all}
+use Rattle.tables.specs.Range.{all}
 use Rattle.sheet.specs.Tree.{children, node-at, times, named, misgrown}
 use Rattle.sheet.specs.Scope.{member}
-use Rattle.sheet.specs.declared.tables.Node.{Node}
-use Rattle.sheet.specs.declared.tables.Node.the-variants.{Stop}
+use Rattle.tables.specs.declared.tables.Node.{Node}
+use Rattle.tables.specs.declared.tables.Node.the-variants.{Stop}
 
 -- what passes of each element passes of a member
 pub all-member : (p : ℕ → Bool) (xs : List ℕ) (x : ℕ) → all p xs ≡ true → member x xs ≡ true → p x ≡ true

@@ -10,23 +10,23 @@ use Rattle.std.specs.Joined.{joined}
 use Rattle.std.specs.declared.result.Result.the-variants.{Ok, Err}
 use Rattle.std.proofs.shelf.Lists.{take-more, drop-more, drop-all, take-all, nil-from-length}
 use Rattle.std.proofs.shelf.Tests.{cases-lt, both-ways, and-from}
-use Rattle.sheet.specs.Elements.{elements}
-use Rattle.sheet.specs.Records.{codes, Unreadable}
-use Rattle.sheet.specs.Encoding.{body, records, type-records, node-record}
-use Rattle.sheet.specs.Range.{Totals, totals, all-from, below, type-fits, node-fits, ranged, Fits, fits-head, fits-pure, fits-public, fits-channel, fits-entry, fits-name, fits-node}
+use Rattle.tables.specs.Elements.{elements}
+use Rattle.records.specs.Records.{codes, Unreadable}
+use Rattle.tables.specs.Encoding.{body, records, type-records, node-record}
+use Rattle.tables.specs.Range.{Totals, totals, all-from, below, type-fits, node-fits, ranged, Fits, fits-head, fits-pure, fits-public, fits-channel, fits-entry, fits-name, fits-node}
 use Rattle.sheet.specs.Order.{class-of, nothing, misplaced, after, census, misplaced-at, Ordered}
 use Rattle.sheet.specs.Filling.{totals-of, Room, Grown, FitsAt, Readable, Spells, Filled}
-use Rattle.sheet.specs.declared.basis.Basis.{Basis}
+use Rattle.tables.specs.declared.basis.Basis.{Basis}
 use Rattle.sheet.specs.declared.census.Census.{Census}
 use Rattle.sheet.specs.declared.census.Class.{Class}
 use Rattle.sheet.specs.declared.census.Class.the-variants as class
-use Rattle.sheet.specs.declared.record.Record.{Record}
-use Rattle.sheet.specs.declared.record.Record.the-variants as raw
-use Rattle.sheet.specs.declared.tables.Tables.{Tables}
+use Rattle.records.specs.declared.record.Record.{Record}
+use Rattle.records.specs.declared.record.Record.the-variants as raw
+use Rattle.tables.specs.declared.tables.Tables.{Tables}
 use Rattle.sheet.proofs.Bodies.{grown-fits, ranged-more, body-more}
 use Rattle.sheet.proofs.Matching.{Matches, room-for, matches-more, node-class, name-placed}
 use Rattle.sheet.proofs.Ordering.{census-push}
-use Rattle.sheet.proofs.Prefixes.{one-reading}
+use Rattle.records.proofs.Prefixes.{one-reading}
 use Rattle.sheet.proofs.Reading.{some-bytes}
 
 -- so many records have become the tables, and these bytes are left
@@ -213,5 +213,5 @@ module _ (b : Basis) (given : List ℕ) (n : Census) (rs : List Record) (all : R
             nodes = sym (ap length (z .nodes));
             room = λ l. absurd (omega arith);
           });
-          range = and-from _ _ (ap (all-from (type-fits (b .largest) (census rs .names)) 0) (z .types)) (and-from _ _ (ap (below (census rs .types)) (z .names)) (ap (Rattle.sheet.specs.Range.all (node-fits (census rs .names) (census rs .nodes))) (z .nodes)));
+          range = and-from _ _ (ap (all-from (type-fits (b .largest) (census rs .names)) 0) (z .types)) (and-from _ _ (ap (below (census rs .types)) (z .names)) (ap (Rattle.tables.specs.Range.all (node-fits (census rs .names) (census rs .nodes))) (z .nodes)));
         }

@@ -6,9 +6,9 @@ use native.Mathlib.Omega.{arith}
 use lib.ListN.{length, length-append}
 use Rattle.std.specs.Joined.{joined}
 use Rattle.std.proofs.shelf.Lists.{joined-more, append-nil, nil-from-length}
-use Rattle.sheet.specs.Records.{codes, Unreadable}
-use Rattle.sheet.specs.declared.record.Record.{Record}
-use Rattle.sheet.specs.declared.record.Record.the-variants.{Head, Name, Pure, Public, Channel, Entry, Stop, Send, Receive, Both, Copy, New, Test, Begin, End}
+use Rattle.records.specs.Records.{codes, Unreadable}
+use Rattle.records.specs.declared.record.Record.{Record}
+use Rattle.records.specs.declared.record.Record.the-variants.{Head, Name, Pure, Public, Channel, Entry, Stop, Send, Receive, Both, Copy, New, Test, Begin, End}
 
 -- one more record, in front of what was left
 pub one-more : {A X : Type 0} (f : X → List A) (xs : List X) (x : X) (left rest all : List A) → f x ++ rest ≡ left → joined f xs ++ left ≡ all → joined f (xs ++ x ∷ []) ++ rest ≡ all

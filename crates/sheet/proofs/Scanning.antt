@@ -13,9 +13,9 @@ use Rattle.std.proofs.shelf.Lists.{append-nil, nil-from-length}
 use Rattle.std.proofs.shelf.Tests.{cases-bool}
 use Rattle.fault.specs.First.{Lowest}
 use Rattle.fault.specs.declared.fault.Fault.the-variants as fault
-use Rattle.sheet.specs.Records.{codes, Unreadable}
+use Rattle.records.specs.Records.{codes, Unreadable}
 use Rattle.sheet.specs.Order.{census, misplaced-at, Ordered, Seen, Unfinished, cut, wrong, none, Scanned}
-use Rattle.sheet.specs.declared.record.Record.{Record}
+use Rattle.records.specs.declared.record.Record.{Record}
 use Rattle.sheet.specs.declared.census.Scan.{Scan}
 use Rattle.sheet.proofs.Reading.{no-record}
 

@@ -7,14 +7,14 @@ use native.Mathlib.Omega.{arith}
 use lib.ListN.{length}
 use Rattle.fault.specs.declared.fault.Fault.{Fault}
 use Rattle.std.proofs.shelf.Tests.{false≢true}
-use Rattle.sheet.specs.Elements.{elements}
-use Rattle.sheet.specs.Range.{totals, ranged, all, all-from, below, type-fits, node-fits}
+use Rattle.tables.specs.Elements.{elements}
+use Rattle.tables.specs.Range.{totals, ranged, all, all-from, below, type-fits, node-fits}
 use Rattle.sheet.specs.Tree.{node-at, misgrown}
 use Rattle.sheet.specs.Scope.{member, repeats, binds, uses, Misnamed, binds-twice, bound-already, out-of-scope}
 use Rattle.sheet.specs.Opening as opening
-use Rattle.sheet.specs.declared.tables.Node.{Node}
-use Rattle.sheet.specs.declared.tables.Node.the-variants.{Stop}
-use Rattle.sheet.specs.declared.tables.Tables.{Tables}
+use Rattle.tables.specs.declared.tables.Node.{Node}
+use Rattle.tables.specs.declared.tables.Node.the-variants.{Stop}
+use Rattle.tables.specs.declared.tables.Tables.{Tables}
 
 stop-names : (n : ℕ) → n ≡ 0 → Misnamed (Stop ∷ []) n → ⊥
 stop-names n z (binds-twice e) = false≢true (subst (λ k. repeats (binds (node-at (Stop ∷ []) k)) ≡ true) z e)

@@ -9,24 +9,24 @@ use Rattle.std.specs.declared.result.Result.{Result}
 use Rattle.std.specs.declared.result.Result.the-variants.{Ok, Err}
 use Rattle.std.specs.declared.option.Option.{Option}
 use Rattle.std.specs.declared.option.Option.the-variants.{Some, None}
-use Rattle.sheet.specs.Elements.{elements, last-of}
-use Rattle.sheet.specs.Records.{codes}
-use Rattle.sheet.specs.Encoding.{parts, spread, type-records, entry-record, node-record, records}
-use Rattle.sheet.specs.Range.{Totals, totals, below, type-fits, entry-fits, node-fits, ranged, Fits}
+use Rattle.tables.specs.Elements.{elements, last-of}
+use Rattle.records.specs.Records.{codes}
+use Rattle.tables.specs.Encoding.{parts, spread, type-records, entry-record, node-record, records}
+use Rattle.tables.specs.Range.{Totals, totals, below, type-fits, entry-fits, node-fits, ranged, Fits}
 use Rattle.sheet.specs.Order.{census, Ordered}
-use Rattle.sheet.specs.declared.basis.Basis.{Basis}
+use Rattle.tables.specs.declared.basis.Basis.{Basis}
 use Rattle.sheet.specs.declared.census.Census.{Census}
 use Rattle.sheet.specs.declared.census.Class.{Class}
 use Rattle.sheet.specs.declared.census.Class.the-variants as class
-use Rattle.sheet.specs.declared.record.Record.{Record}
-use Rattle.sheet.specs.declared.record.Record.the-variants as raw
-use Rattle.sheet.specs.declared.tuple.Tuple.{Tuple}
-use Rattle.sheet.specs.declared.tables.ChannelType.{ChannelType}
-use Rattle.sheet.specs.declared.tables.Entry.{Entry}
-use Rattle.sheet.specs.declared.tables.SheetType.{SheetType}
-use Rattle.sheet.specs.declared.tables.SheetType.the-variants.{Pure, Public, Channel}
-use Rattle.sheet.specs.declared.tables.Node.{Node}
-use Rattle.sheet.specs.declared.tables.Tables.{Tables}
+use Rattle.records.specs.declared.record.Record.{Record}
+use Rattle.records.specs.declared.record.Record.the-variants as raw
+use Rattle.tables.specs.declared.tuple.Tuple.{Tuple}
+use Rattle.tables.specs.declared.tables.ChannelType.{ChannelType}
+use Rattle.tables.specs.declared.tables.Entry.{Entry}
+use Rattle.tables.specs.declared.tables.SheetType.{SheetType}
+use Rattle.tables.specs.declared.tables.SheetType.the-variants.{Pure, Public, Channel}
+use Rattle.tables.specs.declared.tables.Node.{Node}
+use Rattle.tables.specs.declared.tables.Tables.{Tables}
 
 -- the totals that a census of the whole sheet gives
 abbrev pub totals-of : Census → Totals

@@ -13,19 +13,19 @@ use Rattle.calculus.specs.Countings.{Operations}
 use Rattle.fault.specs.First.{First}
 use Rattle.fault.specs.declared.fault.Fault.{Fault}
 use Rattle.fault.specs.declared.fault.Fault.the-variants.{Unreadable, WrongOrder, OutOfRange, NotATree, OutOfScope, BadType}
-use Rattle.sheet.specs.Elements.{elements}
-use Rattle.sheet.specs.Records as bytes
-use Rattle.sheet.specs.Encoding as encoding
-use Rattle.sheet.specs.Range.{totals, ranged}
+use Rattle.tables.specs.Elements.{elements}
+use Rattle.records.specs.Records as bytes
+use Rattle.tables.specs.Encoding as encoding
+use Rattle.tables.specs.Range.{totals, ranged}
 use Rattle.sheet.specs.Order.{census, misplaced-at}
 use Rattle.sheet.specs.Tree.{misgrown}
 use Rattle.sheet.specs.Scope.{Misnamed}
 use Rattle.sheet.specs.Types.{Misformed}
 use Rattle.sheet.specs.Filling.{FitsAt, Spells}
-use Rattle.sheet.specs.declared.basis.Basis.{Basis}
-use Rattle.sheet.specs.declared.record.Record.{Record}
-use Rattle.sheet.specs.declared.tables.Node.the-variants.{Stop}
-use Rattle.sheet.specs.declared.tables.Tables.{Tables}
+use Rattle.tables.specs.declared.basis.Basis.{Basis}
+use Rattle.records.specs.declared.record.Record.{Record}
+use Rattle.tables.specs.declared.tables.Node.the-variants.{Stop}
+use Rattle.tables.specs.declared.tables.Tables.{Tables}
 
 -- the record number of a type, and of a node
 abbrev pub type-place : Tables → ℕ → ℕ

@@ -14,9 +14,9 @@ use Rattle.std.specs.declared.result.Result.the-variants.{Ok, Err}
 use Rattle.fault.specs.First.{Lowest}
 use Rattle.fault.specs.declared.fault.Fault.{Fault}
 use Rattle.fault.specs.declared.fault.Fault.the-variants as fault
-use Rattle.sheet.specs.Records.{codes, Unreadable}
-use Rattle.sheet.specs.declared.record.Record.{Record}
-use Rattle.sheet.specs.declared.record.Record.the-variants as raw
+use Rattle.records.specs.Records.{codes, Unreadable}
+use Rattle.records.specs.declared.record.Record.{Record}
+use Rattle.records.specs.declared.record.Record.the-variants as raw
 use Rattle.sheet.specs.declared.census.Class.{Class}
 use Rattle.sheet.specs.declared.census.Class.the-variants.{Head, Plain, Channel, Entry, Name, Node}
 use Rattle.sheet.specs.declared.census.Census.{Census}

@@ -9,10 +9,10 @@ use Rattle.std.specs.declared.option.Option.{Option}
 use Rattle.std.specs.declared.option.Option.the-variants.{Some, None}
 use Rattle.fault.specs.First.{Lowest}
 use Rattle.fault.specs.Items.{list}
-use Rattle.sheet.specs.Encoding.{parts}
+use Rattle.tables.specs.Encoding.{parts}
 use Rattle.sheet.specs.Tree.{children, node-at}
-use Rattle.sheet.specs.declared.tables.Node.{Node}
-use Rattle.sheet.specs.declared.tables.Node.the-variants.{Stop, Send, Receive, Both, Copy, New, Test, Begin, End}
+use Rattle.tables.specs.declared.tables.Node.{Node}
+use Rattle.tables.specs.declared.tables.Node.the-variants.{Stop, Send, Receive, Both, Copy, New, Test, Begin, End}
 
 -- x stands in the list
 abbrev pub member : ℕ → List ℕ → Bool

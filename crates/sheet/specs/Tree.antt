@@ -5,9 +5,9 @@ use Prim.Native.Nat.{ℕ}
 use lib.Dec.{eqb, ltb}
 use lib.ListN.{getD}
 use Rattle.std.specs.shelf.Lists.{sumBy, countBy}
-use Rattle.sheet.specs.Range.{all}
-use Rattle.sheet.specs.declared.tables.Node.{Node}
-use Rattle.sheet.specs.declared.tables.Node.the-variants.{Stop, Send, Receive, Both, Copy, New, Test, Begin, End}
+use Rattle.tables.specs.Range.{all}
+use Rattle.tables.specs.declared.tables.Node.{Node}
+use Rattle.tables.specs.declared.tables.Node.the-variants.{Stop, Send, Receive, Both, Copy, New, Test, Begin, End}
 
 -- the nodes that go on from a node
 abbrev pub children : Node → List ℕ

@@ -4,25 +4,14 @@ use mathlib.Core.Bool.{Bool, true, false}
 use mathlib.Core.List.{List, []}
 use Prim.Native.Nat.{ℕ, zero, suc, _<_}
 use lib.ListN.{length, getD}
-use Rattle.sheet.specs.Elements.{elements}
-use Rattle.sheet.specs.Encoding.{parts}
-use Rattle.sheet.specs.Range.{all}
-use Rattle.sheet.specs.declared.tables.Entry.{Entry}
-use Rattle.sheet.specs.declared.tables.SheetType.{SheetType}
-use Rattle.sheet.specs.declared.tables.SheetType.the-variants.{Pure, Public, Channel}
+use Rattle.tables.specs.Channels.{components, entries}
+use Rattle.tables.specs.Range.{all}
+use Rattle.tables.specs.declared.tables.Entry.{Entry}
+use Rattle.tables.specs.declared.tables.SheetType.{SheetType}
+use Rattle.tables.specs.declared.tables.SheetType.the-variants.{Pure}
 
 abbrev pub type-at : List SheetType → ℕ → SheetType
 type-at types t = getD types t Pure
-
-abbrev pub components : SheetType → List ℕ
-components Pure = []
-components Public = []
-components (Channel c) = parts (c .components)
-
-abbrev pub entries : SheetType → List Entry
-entries Pure = []
-entries Public = []
-entries (Channel c) = elements (c .entries)
 
 -- the nesting of type t is at most d: a type without components has nesting 1, a channel with components one more
 -- than its deepest component

@@ -1,5 +1,5 @@
 //! The order of records: what a record is to it, and what stands before.
-use crate::record::Record;
+use records::record::Record;
 
 /// What a record is to the order of records.
 #[derive(Clone, Copy)]

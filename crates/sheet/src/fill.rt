@@ -5,32 +5,32 @@ ghost use mathlib.Core.List.{List, []};
 ghost use Rattle.std.specs.Options.{Cases};
 ghost use Rattle.std.specs.Orderings.{Decides, When};
 ghost use Rattle.sheet.specs.Order.{class-of};
-ghost use Rattle.sheet.specs.Range.{Fits};
+ghost use Rattle.tables.specs.Range.{Fits};
 ghost use Rattle.sheet.specs.Filling.{totals-of, Room, Grown, IsType, IsEntry, last-channel, NoTypeFits, NoEntryFits, NoNameFits, NoNodeFits, Readable, Filled};
-ghost use Rattle.sheet.specs.Elements.{elements};
-ghost use Rattle.sheet.specs.declared.record.Record.{Record};
-ghost use Rattle.sheet.specs.declared.record.Record.the-variants.{Head as head};
+ghost use Rattle.tables.specs.Elements.{elements};
+ghost use Rattle.records.specs.declared.record.Record.{Record};
+ghost use Rattle.records.specs.declared.record.Record.the-variants.{Head as head};
 ghost use Rattle.sheet.specs.declared.census.Class.the-variants.{Entry as entry};
 ghost use lib.ListN.{length};
-use crate::basis::Basis;
+use tables::basis::Basis;
 use crate::census::Census;
 use crate::census::Class;
-use crate::decode::entry_of;
-use crate::decode::node_of;
-use crate::decode::tuple_of;
-use crate::range::entry_fits;
-use crate::range::node_fits;
-use crate::range::tuple_below;
-use crate::record::Record;
-use crate::record::read;
+use tables::decode::entry_of;
+use tables::decode::node_of;
+use tables::decode::tuple_of;
+use tables::range::entry_fits;
+use tables::range::node_fits;
+use tables::range::tuple_below;
+use records::record::Record;
+use records::record::read;
 use crate::scan::class;
-use crate::table::Table;
-use crate::tables::ChannelType;
-use crate::tables::Entry;
-use crate::tables::Item;
-use crate::tables::Node;
-use crate::tables::SheetType;
-use crate::tables::Tables;
+use tables::table::Table;
+use tables::tables::ChannelType;
+use tables::tables::Entry;
+use tables::tables::Item;
+use tables::tables::Node;
+use tables::tables::SheetType;
+use tables::tables::Tables;
 use fault::Items;
 use fault::Label;
 
@@ -80,97 +80,84 @@ fn entry_in(given: Record, basis: Basis, totals: Census) -> Option<Entry>
     }
 }
 
-impl Tables {
-    /// Tables of nothing.
-    pub(crate) fn new() -> Tables
-        ensures { λ r. ⌜ (elements (r .types) ≡ []) × (elements (r .names) ≡ []) × (elements (r .nodes) ≡ []) ⌝ }
-    {
-        Tables {
-            types: Table::new(SheetType::Pure),
-            names: Table::new(0),
-            nodes: Table::new(Node::Stop),
-        }
-    }
+/// The type of a record, at the end of the types; false where it is out of range.
+fn add_type(tables: &mut Tables, given: Record, basis: Basis, totals: Census) -> bool
+    requires { ⌜ length (elements (now tables .types)) < 64 ⌝ }
+    ensures { λ r. ⌜ When r (Grown basis (totals-of totals) (now (tables .entry)) (now (tables .exit)) given) (NoTypeFits (length (elements (now (tables .entry) .types))) given) ⌝ }
+{
+    let Some(made) = type_of(given, tables.types.len()) else {
+        return false;
+    };
+    tables.types.push(made)
+}
 
-    /// The type of a record, at the end of the types; false where it is out of range.
-    fn add_type(&mut self, given: Record, basis: Basis, totals: Census) -> bool
-        requires { ⌜ length (elements (now self .types)) < 64 ⌝ }
-        ensures { λ r. ⌜ When r (Grown basis (totals-of totals) (now (self .entry)) (now (self .exit)) given) (NoTypeFits (length (elements (now (self .entry) .types))) given) ⌝ }
-    {
-        let Some(made) = type_of(given, self.types.len()) else {
-            return false;
-        };
-        self.types.push(made)
+/// The last type, where it is a channel.
+fn last_channel(tables: &Tables) -> Option<ChannelType>
+    ensures { λ r. ⌜ r ≡ last-channel (now (tables .entry)) ⌝ }
+{
+    match tables.types.last() {
+        Some(SheetType::Channel(channel)) => Some(channel),
+        _ => None,
     }
+}
 
-    /// The last type, where it is a channel.
-    fn last_channel(&self) -> Option<ChannelType>
-        ensures { λ r. ⌜ r ≡ last-channel (now (self .entry)) ⌝ }
-    {
-        match self.types.last() {
-            Some(SheetType::Channel(channel)) => Some(channel),
-            _ => None,
-        }
+/// The entry of a record, at the end of the last channel's; false where it is out of range.
+fn add_entry(tables: &mut Tables, given: Record, basis: Basis, totals: Census) -> bool
+    requires room { ⌜ Room (now tables) entry ⌝ }
+    requires few { ⌜ totals .names ≤ 64 ⌝ }
+    ensures { λ r. ⌜ When r (Grown basis (totals-of totals) (now (tables .entry)) (now (tables .exit)) given) (NoEntryFits basis (totals-of totals) given) ⌝ }
+{
+    let Some(made) = entry_in(given, basis, totals) else {
+        return false;
+    };
+    let Some(mut channel) = last_channel(tables) else {
+        return false;
+    };
+    if !channel.entries.push(made) {
+        return false;
     }
+    tables.types.replace_last(SheetType::Channel(channel));
+    true
+}
 
-    /// The entry of a record, at the end of the last channel's; false where it is out of range.
-    fn add_entry(&mut self, given: Record, basis: Basis, totals: Census) -> bool
-        requires room { ⌜ Room (now self) entry ⌝ }
-        requires few { ⌜ totals .names ≤ 64 ⌝ }
-        ensures { λ r. ⌜ When r (Grown basis (totals-of totals) (now (self .entry)) (now (self .exit)) given) (NoEntryFits basis (totals-of totals) given) ⌝ }
-    {
-        let Some(made) = entry_in(given, basis, totals) else {
-            return false;
-        };
-        let Some(mut channel) = self.last_channel() else {
-            return false;
-        };
-        if !channel.entries.push(made) {
-            return false;
-        }
-        self.types.replace_last(SheetType::Channel(channel));
-        true
+/// The name of a record, at the end of the names; false where it is out of range.
+fn add_name(tables: &mut Tables, given: Record, basis: Basis, totals: Census) -> bool
+    requires { ⌜ length (elements (now tables .names)) < 64 ⌝ }
+    ensures { λ r. ⌜ When r (Grown basis (totals-of totals) (now (tables .entry)) (now (tables .exit)) given) (NoNameFits (totals-of totals) given) ⌝ }
+{
+    match given {
+        Record::Name { sort } if (sort as usize) < totals.types => tables.names.push(sort),
+        _ => false,
     }
+}
 
-    /// The name of a record, at the end of the names; false where it is out of range.
-    fn add_name(&mut self, given: Record, basis: Basis, totals: Census) -> bool
-        requires { ⌜ length (elements (now self .names)) < 64 ⌝ }
-        ensures { λ r. ⌜ When r (Grown basis (totals-of totals) (now (self .entry)) (now (self .exit)) given) (NoNameFits (totals-of totals) given) ⌝ }
-    {
-        match given {
-            Record::Name { sort } if (sort as usize) < totals.types => self.names.push(sort),
-            _ => false,
-        }
+/// The node of a record, at the end of the nodes; false where it is out of range.
+fn add_node(tables: &mut Tables, given: Record, basis: Basis, totals: Census) -> bool
+    requires room { ⌜ length (elements (now tables .nodes)) < 1024 ⌝ }
+    requires few { ⌜ totals .names ≤ 64 ⌝ }
+    ensures { λ r. ⌜ When r (Grown basis (totals-of totals) (now (tables .entry)) (now (tables .exit)) given) (NoNodeFits (totals-of totals) given) ⌝ }
+{
+    let Some(made) = node_of(given) else {
+        return false;
+    };
+    if !node_fits(totals.names, totals.nodes, &made) {
+        return false;
     }
+    tables.nodes.push(made)
+}
 
-    /// The node of a record, at the end of the nodes; false where it is out of range.
-    fn add_node(&mut self, given: Record, basis: Basis, totals: Census) -> bool
-        requires room { ⌜ length (elements (now self .nodes)) < 1024 ⌝ }
-        requires few { ⌜ totals .names ≤ 64 ⌝ }
-        ensures { λ r. ⌜ When r (Grown basis (totals-of totals) (now (self .entry)) (now (self .exit)) given) (NoNodeFits (totals-of totals) given) ⌝ }
-    {
-        let Some(made) = node_of(given) else {
-            return false;
-        };
-        if !node_fits(totals.names, totals.nodes, &made) {
-            return false;
-        }
-        self.nodes.push(made)
-    }
-
-    /// What a record means, at its place in the tables; false where it is out of range.
-    fn add(&mut self, given: Record, basis: Basis, totals: Census) -> bool
-        requires room { ⌜ Room (now self) (class-of given) ⌝ }
-        requires few { ⌜ totals .names ≤ 64 ⌝ }
-        ensures { λ r. ⌜ When r (Grown basis (totals-of totals) (now (self .entry)) (now (self .exit)) given) (Fits basis (totals-of totals) (length (elements (now (self .entry) .types))) given → ⊥) ⌝ }
-    {
-        match class(given) {
-            Class::Head => false,
-            Class::Plain | Class::Channel => self.add_type(given, basis, totals),
-            Class::Entry => self.add_entry(given, basis, totals),
-            Class::Name => self.add_name(given, basis, totals),
-            Class::Node => self.add_node(given, basis, totals),
-        }
+/// What a record means, at its place in the tables; false where it is out of range.
+fn add(tables: &mut Tables, given: Record, basis: Basis, totals: Census) -> bool
+    requires room { ⌜ Room (now tables) (class-of given) ⌝ }
+    requires few { ⌜ totals .names ≤ 64 ⌝ }
+    ensures { λ r. ⌜ When r (Grown basis (totals-of totals) (now (tables .entry)) (now (tables .exit)) given) (Fits basis (totals-of totals) (length (elements (now (tables .entry) .types))) given → ⊥) ⌝ }
+{
+    match class(given) {
+        Class::Head => false,
+        Class::Plain | Class::Channel => add_type(tables, given, basis, totals),
+        Class::Entry => add_entry(tables, given, basis, totals),
+        Class::Name => add_name(tables, given, basis, totals),
+        Class::Node => add_node(tables, given, basis, totals),
     }
 }
 
@@ -207,7 +194,7 @@ pub fn fill(bytes: &[u8], basis: Basis, totals: Census) -> Result<Tables, usize>
         let Some((next, rest)) = read(left) else {
             return Err(place);
         };
-        if !tables.add(next, basis, totals) {
+        if !add(&mut tables, next, basis, totals) {
             return Err(place);
         }
         place += 1;

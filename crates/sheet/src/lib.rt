@@ -1,20 +1,13 @@
-//! Sheets as files: records, tables, and opening.
-pub mod basis;
+//! Sheets, opened from bytes.
 pub mod built;
-pub mod census;
+mod census;
 mod check;
-mod decode;
 mod fill;
 mod meant;
 pub mod opened;
-mod range;
-pub mod record;
 mod scan;
 mod scope;
-pub mod table;
-pub mod tables;
 mod tree;
-pub mod tuple;
 mod types;
 
 pub use built::OnceSheets;
@@ -22,13 +15,3 @@ pub use built::PartsSheets;
 pub use opened::OpenedSheet;
 pub use opened::Sheets;
 pub use opened::open;
-pub use record::Quad;
-pub use record::Record;
-pub use table::Table;
-pub use tables::ChannelType;
-pub use tables::Entry;
-pub use tables::Item;
-pub use tables::Node;
-pub use tables::SheetType;
-pub use tables::Tables;
-pub use tuple::Tuple;

@@ -1,10 +1,10 @@
 //! What bytes mean: the tables of a sheet, or the first fault.
 ghost use Rattle.sheet.specs.Opening.{Means};
-use crate::basis::Basis;
+use tables::basis::Basis;
 use crate::check::check;
 use crate::fill::fill;
 use crate::scan::scan;
-use crate::tables::Tables;
+use tables::tables::Tables;
 use fault::Fault;
 
 /// The tables of the sheet that bytes mean for a counting with this basis, or the first fault: by its number for the

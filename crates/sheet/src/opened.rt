@@ -3,11 +3,11 @@ ghost use mathlib.Core.Path.{_≡_};
 ghost use mathlib.Core.Bool.{true};
 ghost use Rattle.std.specs.Results.{isErr};
 ghost use Rattle.sheet.specs.Opening.{Sound, Opens, OneStop, basis-of};
-ghost use Rattle.sheet.specs.declared.tables.Tables.{Tables};
-use crate::basis::Basis;
+ghost use Rattle.tables.specs.declared.tables.Tables.{Tables};
+use tables::basis::Basis;
 use crate::meant::meant;
-use crate::tables::Node;
-use crate::tables::Tables;
+use tables::tables::Node;
+use tables::tables::Tables;
 use counting::Counting;
 use fault::Fault;
 

@@ -4,12 +4,12 @@ ghost use mathlib.Core.Bool.{false};
 ghost use mathlib.Core.List.{List, _++_, _∷_, []};
 ghost use Prim.Native.Nat.{_+_, _<_, _^_};
 ghost use Rattle.sheet.specs.Order.{class-of, nothing, misplaced, after, Seen, Scanned};
-ghost use Rattle.sheet.specs.declared.record.Record.{Record};
+ghost use Rattle.records.specs.declared.record.Record.{Record};
 use crate::census::Census;
 use crate::census::Class;
 use crate::census::Scan;
-use crate::record::Record;
-use crate::record::read;
+use records::record::Record;
+use records::record::read;
 use fault::Fault;
 
 /// What a record is to the order.

@@ -10,13 +10,13 @@ ghost use Rattle.std.specs.Orderings.{Decides};
 ghost use Rattle.std.specs.Vec.{listOf};
 ghost use Rattle.std.specs.declared.option.Option.the-variants.{None};
 ghost use Rattle.fault.specs.First.{Lowest};
-ghost use Rattle.sheet.specs.Encoding.{parts};
-ghost use Rattle.sheet.specs.Range.{all, node-fits};
+ghost use Rattle.tables.specs.Encoding.{parts};
+ghost use Rattle.tables.specs.Range.{all, node-fits};
 ghost use Rattle.sheet.specs.Tree.{children, misgrown};
 ghost use Rattle.sheet.specs.Scope.{member, repeats, binds, uses, Misnamed, Any, Holders, Over, Falling, Taken, Outside, Charted};
-use crate::tables::Node;
+use tables::tables::Node;
 use crate::tree::children_of;
-use crate::tuple::Tuple;
+use tables::tuple::Tuple;
 use fault::Items;
 
 /// The names that a node binds.

@@ -7,9 +7,9 @@ ghost use lib.Dec.{eqb, ltb};
 ghost use lib.ListN.{length, getD};
 ghost use Rattle.std.specs.Vec.{listOf};
 ghost use Rattle.fault.specs.First.{Lowest};
-ghost use Rattle.sheet.specs.Range.{all};
+ghost use Rattle.tables.specs.Range.{all};
 ghost use Rattle.sheet.specs.Tree.{children, times, named, misgrown};
-use crate::tables::Node;
+use tables::tables::Node;
 
 /// The numbers of the nodes that go on from a node: two at most.
 pub fn children_of(node: &Node) -> (Option<usize>, Option<usize>)

@@ -3,41 +3,20 @@ ghost use mathlib.Core.Path.{_≡_};
 ghost use lib.ListN.{length};
 ghost use Rattle.std.specs.Orderings.{Decides};
 ghost use Rattle.fault.specs.First.{Lowest};
-ghost use Rattle.sheet.specs.Encoding.{parts};
+ghost use Rattle.tables.specs.Encoding.{parts};
 ghost use Rattle.sheet.specs.Labels.{Labelled, Repeated};
-ghost use Rattle.sheet.specs.Types.{Misformed, nests, components, entries, type-at};
-use crate::tables::Entry;
-use crate::tables::Item;
-use crate::tables::ItemPartialEq;
-use crate::tables::SheetType;
-use crate::tuple::Tuple;
+ghost use Rattle.tables.specs.Channels.{components, entries};
+ghost use Rattle.sheet.specs.Types.{Misformed, nests, type-at};
+use tables::tables::Entry;
+use tables::tables::Item;
+use tables::tables::ItemPartialEq;
+use tables::tables::SheetType;
+use tables::tuple::Tuple;
 use fault::Label;
 use fault::label::LabelPartialEq;
 
 /// The most levels that a type may nest.
 const LEVELS: usize = 4;
-
-impl SheetType {
-    /// The components of a channel, by their numbers; any other type has none.
-    pub fn components(&self) -> Tuple<u8>
-        ensures { λ r. ⌜ parts r ≡ components (now (self .entry)) ⌝ }
-    {
-        match self {
-            SheetType::Channel(channel) => channel.components,
-            _ => Tuple::Empty,
-        }
-    }
-
-    /// The entries of a channel; any other type has none.
-    pub fn entries(&self) -> &[Entry]
-        ensures { λ r. ⌜ now r ≡ entries (now (self .entry)) ⌝ }
-    {
-        match self {
-            SheetType::Channel(channel) => channel.entries.as_slice(),
-            _ => &[],
-        }
-    }
-}
 
 /// The number of the first type that has one label on two entries or is nested too deep, or none.
 pub fn first_misformed(types: &[SheetType]) -> Option<usize>

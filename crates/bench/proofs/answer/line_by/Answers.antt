@@ -3,9 +3,9 @@ use lib.ListN.{length}
 use Rattle.std.specs.Of.String.{string-bytes}
 use Rattle.std.specs.declared.result.Result.the-variants.{Ok, Err}
 use Rattle.std.proofs.shelf.Results.{made-weaker}
-use Rattle.sheet.specs.Elements.{elements}
+use Rattle.tables.specs.Elements.{elements}
 use Rattle.sheet.specs.Opening.{Means, basis-of}
-use Rattle.sheet.specs.declared.tables.Tables.{Tables}
+use Rattle.tables.specs.declared.tables.Tables.{Tables}
 use Rattle.bench.specs.Answer.{By}
 use Rattle.bench.specs.Lines.{opened, refused}
 use Rattle.bench.proofs.answer.line_by.Needs as need

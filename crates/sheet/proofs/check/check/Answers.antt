@@ -8,9 +8,9 @@ use Rattle.std.specs.declared.option.Option.the-variants.{Some, None}
 use Rattle.std.proofs.shelf.Lists.{length-take}
 use Rattle.fault.specs.First.{First, Lowest}
 use Rattle.fault.specs.declared.fault.Fault.the-variants.{NotATree, OutOfScope, BadType}
-use Rattle.sheet.specs.Elements.{elements}
-use Rattle.sheet.specs.Encoding.{type-records}
-use Rattle.sheet.specs.Range.{all, node-fits}
+use Rattle.tables.specs.Elements.{elements}
+use Rattle.tables.specs.Encoding.{type-records}
+use Rattle.tables.specs.Range.{all, node-fits}
 use Rattle.sheet.specs.Tree.{misgrown}
 use Rattle.sheet.specs.Scope.{Misnamed}
 use Rattle.sheet.specs.Types.{Misformed}

@@ -3,9 +3,9 @@ use Prim.Native.Nat.{_+_}
 use native.Mathlib.Omega.{arith}
 use lib.ListN.{length}
 use Rattle.std.proofs.shelf.Lists.{length-map}
-use Rattle.sheet.specs.Elements.{elements}
-use Rattle.sheet.specs.Encoding.{type-records, entry-record}
-use Rattle.sheet.specs.declared.tables.SheetType.{SheetType}
+use Rattle.tables.specs.Elements.{elements}
+use Rattle.tables.specs.Encoding.{type-records, entry-record}
+use Rattle.tables.specs.declared.tables.SheetType.{SheetType}
 use Rattle.sheet.proofs.check.records_of_type.Needs as need
 
 pub returns-in-Channel : need.returns-in-Channel

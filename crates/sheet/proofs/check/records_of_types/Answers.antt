@@ -4,7 +4,7 @@ use native.Mathlib.Omega.{arith}
 use lib.ListN.{length}
 use lib.Seq.{take-all}
 use Rattle.std.specs.Joined.{joined}
-use Rattle.sheet.specs.Encoding.{type-records}
+use Rattle.tables.specs.Encoding.{type-records}
 use Rattle.sheet.proofs.Checking.{records-more}
 use Rattle.sheet.proofs.check.records_of_types.Needs as need
 

@@ -2,7 +2,7 @@ use mathlib.Core.Path.{_≡_}
 use Prim.Native.Nat.{_*_, _≤_}
 use lib.ListN.{length, take}
 use Rattle.std.specs.Joined.{joined}
-use Rattle.sheet.specs.Encoding.{type-records}
+use Rattle.tables.specs.Encoding.{type-records}
 use Rattle.sheet.proofs.check.records_of_types.Given as given
 
 abbrev pub Inv-loop-given : given.InvT-loop-given

@@ -4,8 +4,8 @@ use Prim.Native.Nat.{_<_, _≤_}
 use native.Mathlib.Omega.{arith}
 use lib.ListN.{length}
 use Rattle.std.proofs.shelf.Ways.{not-from-decides}
-use Rattle.sheet.specs.Elements.{elements}
-use Rattle.sheet.specs.Range.{Fits}
+use Rattle.tables.specs.Elements.{elements}
+use Rattle.tables.specs.Range.{Fits}
 use Rattle.sheet.specs.Filling.{totals-of, Grown}
 use Rattle.sheet.proofs.Progress.{first-readable, head-unfit, started, not-over, readable, has-room, unfit, further, spelled, all-fit, some-node, few-names}
 use Rattle.sheet.proofs.Reading.{shorter}
@@ -58,7 +58,7 @@ loop-left-again c =
     let i = c .loop-left .inv .1 in
     let e = c .in-Some-read .ensures tt in
     let some = false-eqb _ 0 (c .loop-left-test .ensures tt) in
-    let grown = subst (λ n. Grown (c .args .basis) (totals-of n) (c .loop-left .tables) (c .add .last .self) (c .in-Some-read .next)) (i .1 .counts) (c .if-not-add .ensures tt) in (
+    let grown = subst (λ n. Grown (c .args .basis) (totals-of n) (c .loop-left .tables) (c .add .last .tables) (c .in-Some-read .next)) (i .1 .counts) (c .if-not-add .ensures tt) in (
       omega (arith, shorter _ _ _ e, c .loop-left .inv .0),
       (i .0, i .1, further (c .args .basis) (i .0) (i .1 .order) _ _ _ (i .2) _ _ (omega arith) e _ grown),
     )

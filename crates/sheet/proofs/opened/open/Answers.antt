@@ -5,7 +5,7 @@ use native.Mathlib.Omega.{arith}
 use Rattle.std.specs.declared.result.Result.the-variants.{Ok, Err}
 use Rattle.std.proofs.shelf.Tests.{false≢true}
 use Rattle.sheet.specs.Opening.{Means, basis-of}
-use Rattle.sheet.specs.declared.basis.Basis.{Basis}
+use Rattle.tables.specs.declared.basis.Basis.{Basis}
 use Rattle.sheet.proofs.opened.open.Given as given
 use Rattle.sheet.proofs.opened.open.Needs as need
 

@@ -2,7 +2,7 @@ use borrow.Author.Needs.{needs}
 use borrow.Author.Tests.{true-eqb, false-eqb}
 use mathlib.Core.List.{_++_, _∷_, []}
 use native.Mathlib.Omega.{arith}
-use Rattle.sheet.specs.Records.{codes}
+use Rattle.records.specs.Records.{codes}
 use Rattle.sheet.proofs.Reading.{one-more, shorter}
 use Rattle.sheet.proofs.Scanning.{ends-cut, ends-wrong, ends-none, ends-well}
 use Rattle.sheet.proofs.scan.scan.Needs as need

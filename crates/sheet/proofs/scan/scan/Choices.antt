@@ -3,9 +3,9 @@ use mathlib.Core.List.{List, _++_}
 use Prim.Native.Nat.{_+_, _≤_}
 use lib.ListN.{length}
 use Rattle.std.specs.Joined.{joined}
-use Rattle.sheet.specs.Records.{codes}
+use Rattle.records.specs.Records.{codes}
 use Rattle.sheet.specs.Order.{Seen}
-use Rattle.sheet.specs.declared.record.Record.{Record}
+use Rattle.records.specs.declared.record.Record.{Record}
 use Rattle.sheet.proofs.scan.scan.Given as given
 
 abbrev pub Inv-loop-left : given.InvT-loop-left

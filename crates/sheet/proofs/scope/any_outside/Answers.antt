@@ -1,7 +1,7 @@
 use mathlib.Core.Path.{refl, subst}
 use Rattle.std.specs.Vec.{listOf}
 use Rattle.std.proofs.shelf.Ways.{not-from-decides}
-use Rattle.sheet.specs.Encoding.{parts}
+use Rattle.tables.specs.Encoding.{parts}
 use Rattle.sheet.specs.Scope.{Any, Outside}
 use Rattle.sheet.proofs.Scoped.{any-place, any-more}
 use Rattle.sheet.proofs.scope.any_outside.Needs as need

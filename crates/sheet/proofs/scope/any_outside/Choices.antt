@@ -1,5 +1,5 @@
 use lib.ListN.{take}
-use Rattle.sheet.specs.Encoding.{parts}
+use Rattle.tables.specs.Encoding.{parts}
 use Rattle.sheet.specs.Scope.{Any, Outside}
 use Rattle.sheet.proofs.scope.any_outside.Given as given
 

@@ -1,5 +1,5 @@
 use lib.ListN.{take}
-use Rattle.sheet.specs.Encoding.{parts}
+use Rattle.tables.specs.Encoding.{parts}
 use Rattle.sheet.specs.Scope.{Any, Taken}
 use Rattle.sheet.proofs.scope.any_taken.Given as given
 

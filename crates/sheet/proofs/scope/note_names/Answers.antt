@@ -5,7 +5,7 @@ use lib.ListN.{length, getD, take}
 use Rattle.std.specs.Vec.{listOf}
 use Rattle.std.specs.declared.option.Option.the-variants.{None}
 use Rattle.fault.specs.Items.{nth}
-use Rattle.sheet.specs.Encoding.{parts}
+use Rattle.tables.specs.Encoding.{parts}
 use Rattle.sheet.proofs.Scoped.{take-nth, noted-more}
 use Rattle.sheet.proofs.scope.note_names.Needs as need
 

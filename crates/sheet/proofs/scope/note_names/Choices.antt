@@ -3,7 +3,7 @@ use Prim.Native.Nat.{ℕ, _<_}
 use lib.ListN.{length, getD, take}
 use Rattle.std.specs.Options.{orOther, whenTrue}
 use Rattle.std.specs.declared.option.Option.the-variants.{None}
-use Rattle.sheet.specs.Encoding.{parts}
+use Rattle.tables.specs.Encoding.{parts}
 use Rattle.sheet.specs.Scope.{member}
 use Rattle.sheet.proofs.scope.note_names.Given as given
 

@@ -1,8 +1,8 @@
 use mathlib.Core.Path.{sym, ap, _∙_}
 use Prim.Native.Nat.{_-_, _+_, _≤_}
 use native.Mathlib.Omega.{arith}
-use Rattle.sheet.specs.Encoding.{parts}
-use Rattle.sheet.specs.Range.{all}
+use Rattle.tables.specs.Encoding.{parts}
+use Rattle.tables.specs.Range.{all}
 use Rattle.sheet.specs.Types.{nests}
 use Rattle.sheet.proofs.Nesting.{nests-step, nth-within, parts-few, all-on, all-past}
 use Rattle.sheet.proofs.types.+nests_within.Needs as need

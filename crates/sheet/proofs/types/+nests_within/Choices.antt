@@ -1,8 +1,8 @@
 use mathlib.Core.Path.{_≡_}
 use Prim.Native.Nat.{_-_, _≤_}
 use lib.ListN.{length, drop}
-use Rattle.sheet.specs.Encoding.{parts}
-use Rattle.sheet.specs.Range.{all}
+use Rattle.tables.specs.Encoding.{parts}
+use Rattle.tables.specs.Range.{all}
 use Rattle.sheet.specs.Types.{nests}
 use Rattle.sheet.proofs.types.+nests_within.Given as given
 

@@ -1,8 +1,8 @@
 use mathlib.Core.Path.{sym, ap}
 use Rattle.std.proofs.shelf.Lists.{getD-past}
 use Rattle.std.proofs.shelf.Tests.{ltb-false}
-use Rattle.sheet.specs.Types.{components}
-use Rattle.sheet.specs.declared.tables.SheetType.the-variants.{Pure}
+use Rattle.tables.specs.Channels.{components}
+use Rattle.tables.specs.declared.tables.SheetType.the-variants.{Pure}
 use Rattle.sheet.proofs.types.components_of.Needs as need
 
 pub returns-in-None : need.returns-in-None
