@@ -5,14 +5,8 @@ ghost use Rattle.std.specs.Vec.{made};
 use std::io;
 use std::io::Read;
 
-mod answer;
-mod choice;
-mod lines;
-#[cfg(test)]
-mod tests;
-
 /// One byte more than a sheet may have, which tells that an input is longer.
-const PAST: usize = answer::LIMIT + 1;
+const PAST: usize = lines::LIMIT + 1;
 
 /// Reads the input and prints its line. Only a failed read, a failed write or a want of memory ends with another
 /// status than 0.
@@ -20,7 +14,7 @@ fn main(rt: LibcRuntime) -> io::Result<()> {
     let mut buffer = [0; PAST];
     let mut input = rt.stdin();
     let len = fill(&mut input, &mut buffer)?;
-    let line = answer::line_for(rt.alloc(), &buffer[0..len])?;
+    let line = lines::line_for(rt.alloc(), &buffer[0..len])?;
     rt.print(line.as_str())
 }
 

@@ -8,11 +8,11 @@ ghost use Rattle.tables.specs.Elements.{elements};
 ghost use Rattle.tables.specs.Range.{ranged, totals};
 ghost use Rattle.sheet.specs.Opening.{Crooked};
 use crate::opened::Sheets;
-use tables::tables::Tables;
 use counting::Once;
 use counting::OnceCounting;
 use counting::Parts;
 use counting::PartsCounting;
+use tables::tables::Tables;
 
 /// Tables that are sound by parts: no entry is above 100,000.
 #[derive(Drop)]

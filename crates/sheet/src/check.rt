@@ -10,11 +10,11 @@ ghost use Rattle.tables.specs.Encoding.{type-records};
 ghost use Rattle.tables.specs.Range.{ranged, totals};
 ghost use Rattle.sheet.specs.Opening.{Crooked, fault-of, node-place, type-place};
 use crate::scope::first_misnamed;
-use tables::tables::SheetType;
-use tables::tables::Tables;
 use crate::tree::first_misgrown;
 use crate::types::first_misformed;
 use fault::Fault;
+use tables::tables::SheetType;
+use tables::tables::Tables;
 
 /// How many records a type has: its own, and those of its entries.
 fn records_of_type(given: &SheetType) -> usize

@@ -12,18 +12,20 @@ ghost use Rattle.records.specs.declared.record.Record.{Record};
 ghost use Rattle.records.specs.declared.record.Record.the-variants.{Head as head};
 ghost use Rattle.sheet.specs.declared.census.Class.the-variants.{Entry as entry};
 ghost use lib.ListN.{length};
-use tables::basis::Basis;
 use crate::census::Census;
 use crate::census::Class;
+use crate::scan::class;
+use fault::Items;
+use fault::Label;
+use records::record::Record;
+use records::record::read;
+use tables::basis::Basis;
 use tables::decode::entry_of;
 use tables::decode::node_of;
 use tables::decode::tuple_of;
 use tables::range::entry_fits;
 use tables::range::node_fits;
 use tables::range::tuple_below;
-use records::record::Record;
-use records::record::read;
-use crate::scan::class;
 use tables::table::Table;
 use tables::tables::ChannelType;
 use tables::tables::Entry;
@@ -31,8 +33,6 @@ use tables::tables::Item;
 use tables::tables::Node;
 use tables::tables::SheetType;
 use tables::tables::Tables;
-use fault::Items;
-use fault::Label;
 
 /// The type that a record means, as type number `own`, with no entries yet; none where it is out of range.
 fn type_of(given: Record, own: usize) -> Option<SheetType>

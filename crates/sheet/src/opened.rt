@@ -4,12 +4,12 @@ ghost use mathlib.Core.Bool.{true};
 ghost use Rattle.std.specs.Results.{isErr};
 ghost use Rattle.sheet.specs.Opening.{Sound, Opens, OneStop, basis-of};
 ghost use Rattle.tables.specs.declared.tables.Tables.{Tables};
-use tables::basis::Basis;
 use crate::meant::meant;
-use tables::tables::Node;
-use tables::tables::Tables;
 use counting::Counting;
 use fault::Fault;
+use tables::basis::Basis;
+use tables::tables::Node;
+use tables::tables::Tables;
 
 /// A counting with the type of its sheets: tables that are sound by this counting. A generic type cannot state a fact
 /// about its counting by itself, so each counting brings a small type that does, and the law hands the fact on.

@@ -8,9 +8,9 @@ ghost use Rattle.records.specs.declared.record.Record.{Record};
 use crate::census::Census;
 use crate::census::Class;
 use crate::census::Scan;
+use fault::Fault;
 use records::record::Record;
 use records::record::read;
-use fault::Fault;
 
 /// What a record is to the order.
 pub fn class(given: Record) -> Class

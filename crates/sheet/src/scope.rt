@@ -14,10 +14,10 @@ ghost use Rattle.tables.specs.Encoding.{parts};
 ghost use Rattle.tables.specs.Range.{all, node-fits};
 ghost use Rattle.sheet.specs.Tree.{children, misgrown};
 ghost use Rattle.sheet.specs.Scope.{member, repeats, binds, uses, Misnamed, Any, Holders, Over, Falling, Taken, Outside, Charted};
-use tables::tables::Node;
 use crate::tree::children_of;
-use tables::tuple::Tuple;
 use fault::Items;
+use tables::tables::Node;
+use tables::tuple::Tuple;
 
 /// The names that a node binds.
 fn names_bound(node: &Node) -> Tuple<u8>

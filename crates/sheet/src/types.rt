@@ -7,13 +7,13 @@ ghost use Rattle.tables.specs.Encoding.{parts};
 ghost use Rattle.sheet.specs.Labels.{Labelled, Repeated};
 ghost use Rattle.tables.specs.Channels.{components, entries};
 ghost use Rattle.sheet.specs.Types.{Misformed, nests, type-at};
+use fault::Label;
+use fault::label::LabelPartialEq;
 use tables::tables::Entry;
 use tables::tables::Item;
 use tables::tables::ItemPartialEq;
 use tables::tables::SheetType;
 use tables::tuple::Tuple;
-use fault::Label;
-use fault::label::LabelPartialEq;
 
 /// The most levels that a type may nest.
 const LEVELS: usize = 4;

@@ -7,14 +7,14 @@ ghost use Rattle.fault.specs.Items.{list};
 ghost use Rattle.tables.specs.Decoding as decoding;
 ghost use Rattle.tables.specs.Encoding.{parts, spread, item-byte, entry-record, node-record};
 ghost use Rattle.records.specs.declared.record.Record.the-variants.{Entry as entry};
-use records::record::Quad;
-use records::record::Record;
 use crate::tables::Entry;
 use crate::tables::Item;
 use crate::tables::Node;
 use crate::tuple::Tuple;
 use fault::Items;
 use fault::Label;
+use records::record::Quad;
+use records::record::Record;
 
 /// The bytes that are used, at least one; none where a byte stands after one that is not used.
 fn used(bytes: Quad) -> Option<Items<u8>>

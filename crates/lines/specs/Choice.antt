@@ -4,8 +4,8 @@ use mathlib.Core.List.{List}
 use Prim.Native.Nat.{ℕ, _+_, _*_}
 use lib.Dec.{eqb, leb}
 use lib.ListN.{length, getD}
-use Rattle.bench.specs.declared.choice.Chosen.{Chosen}
-use Rattle.bench.specs.declared.choice.Chosen.the-variants as made
+use Rattle.lines.specs.declared.choice.Chosen.{Chosen}
+use Rattle.lines.specs.declared.choice.Chosen.the-variants as made
 
 -- a counting that is built: parts with this full right, or once
 pub data Choice : Type 0 where

@@ -13,8 +13,8 @@ use Rattle.tables.specs.Elements.{elements}
 use Rattle.sheet.specs.Opening.{Means, basis-of}
 use Rattle.tables.specs.declared.basis.Basis.{Basis}
 use Rattle.tables.specs.declared.tables.Tables.{Tables}
-use Rattle.bench.specs.Choice.{Choice, parts, once, choice}
-use Rattle.bench.specs.Lines.{refused, opened}
+use Rattle.lines.specs.Choice.{Choice, parts, once, choice}
+use Rattle.lines.specs.Lines.{refused, opened}
 
 -- what a counting asks of a sheet: parts has code 0, once has code 1
 abbrev pub basis : Choice → Basis

@@ -1,6 +1,6 @@
 //! Which counting a sheet is opened with.
 ghost use mathlib.Core.Path.{_≡_};
-ghost use Rattle.bench.specs.Choice.{asked, choice, kind};
+ghost use Rattle.lines.specs.Choice.{asked, choice, kind};
 use counting::Once;
 use counting::Parts;
 

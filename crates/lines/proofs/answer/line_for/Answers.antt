@@ -5,8 +5,8 @@ use Rattle.std.specs.Of.String.{string-bytes}
 use Rattle.std.proofs.shelf.Results.{made-weaker}
 use Rattle.calculus.specs.Built as built
 use Rattle.sheet.specs.Opening.{basis-of}
-use Rattle.bench.specs.Answer.{Answers, By, basis}
-use Rattle.bench.proofs.answer.line_for.Needs as need
+use Rattle.lines.specs.Answer.{Answers, By, basis}
+use Rattle.lines.proofs.answer.line_for.Needs as need
 
 pub returns-in-Parts : need.returns-in-Parts
 returns-in-Parts c =

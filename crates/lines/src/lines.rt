@@ -3,7 +3,7 @@ ghost use mathlib.Core.Path.{_≡_};
 ghost use Rattle.std.specs.Of.String.{string-bytes};
 ghost use Rattle.std.specs.Vec.{made};
 ghost use Rattle.fault.specs.Items.{list};
-ghost use Rattle.bench.specs.Lines.{word, dotted, amiss, refused, opened};
+ghost use Rattle.lines.specs.Lines.{word, dotted, amiss, refused, opened};
 use fault::Fault;
 use fault::Items;
 use fault::Label;

@@ -3,7 +3,7 @@ ghost use mathlib.Core.Path.{_≡_};
 ghost use Rattle.std.specs.Of.String.{string-bytes};
 ghost use Rattle.std.specs.Vec.{made};
 ghost use Rattle.sheet.specs.Opening.{basis-of};
-ghost use Rattle.bench.specs.Answer.{Answers, By};
+ghost use Rattle.lines.specs.Answer.{Answers, By};
 use crate::choice::Chosen;
 use crate::choice::choose;
 use crate::lines::opened_line;

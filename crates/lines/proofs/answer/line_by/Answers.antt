@@ -6,9 +6,9 @@ use Rattle.std.proofs.shelf.Results.{made-weaker}
 use Rattle.tables.specs.Elements.{elements}
 use Rattle.sheet.specs.Opening.{Means, basis-of}
 use Rattle.tables.specs.declared.tables.Tables.{Tables}
-use Rattle.bench.specs.Answer.{By}
-use Rattle.bench.specs.Lines.{opened, refused}
-use Rattle.bench.proofs.answer.line_by.Needs as need
+use Rattle.lines.specs.Answer.{By}
+use Rattle.lines.specs.Lines.{opened, refused}
+use Rattle.lines.proofs.answer.line_by.Needs as need
 
 pub returns-in-Ok : need.returns-in-Ok
 returns-in-Ok g c =
