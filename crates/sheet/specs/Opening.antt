@@ -51,6 +51,10 @@ pub record Reading (given : List ℕ) : Type 0 where
   pub stuck : bytes.Unreadable left
   pub sheet : Tables
 
+-- bytes can be read in one way only: two readings have the same records, and leave the same
+abbrev pub OneReading : List ℕ → Type 0
+OneReading given = (R S : Reading given) → (R .records ≡ S .records) × (R .left ≡ S .left)
+
 -- the faults of a reading, a rule for each; those of tables are about a sheet that the records mean
 pub data Faulty (b : Basis) {given : List ℕ} (R : Reading given) : Fault → Type 0 where
   -- 1: what is left after the last record is no record

@@ -32,10 +32,8 @@ pub impl Sheets for Parts as PartsSheets {
     ghost held = { λ s. s .tables };
 
     fn seal(self, tables: Tables) -> PartsSheet {
-        PartsSheet {
-            counting: self,
-            tables,
-        }
+        let counting = self;
+        PartsSheet { counting, tables }
     }
 
     fn counting(sheet: &PartsSheet) -> Parts {
@@ -65,10 +63,7 @@ pub impl Sheets for Once as OnceSheets {
     ghost held = { λ s. s .tables };
 
     fn seal(self, tables: Tables) -> OnceSheet {
-        OnceSheet {
-            counting: self,
-            tables,
-        }
+        OnceSheet { counting: self, tables }
     }
 
     fn counting(sheet: &OnceSheet) -> Once {

@@ -2,7 +2,7 @@
 ghost use mathlib.Core.Path.{_≡_};
 ghost use mathlib.Core.Bool.{true};
 ghost use Rattle.std.specs.Results.{isErr};
-ghost use Rattle.sheet.specs.Opening.{Sound, Opens, OneStop, basis-of};
+ghost use Rattle.sheet.specs.Opening.{Sound, Opens, OneReading, OneStop, basis-of};
 ghost use Rattle.tables.specs.declared.tables.Tables.{Tables};
 use crate::meant::meant;
 use counting::Counting;
@@ -82,6 +82,7 @@ fn one_stop() -> Tables
 /// the place as it was.
 pub fn open<C: Sheets>(bytes: &[u8], place: &mut OpenedSheet<C>) -> Result<(), Fault>
     ensures meaning { λ r. ⌜ Opens (basis-of (C·Counting .tag (C·Sheets .own (now (place .entry) .sheet))) (C·Counting .operations (C·Sheets .own (now (place .entry) .sheet)))) (now (bytes .entry)) (C·Sheets .held (now (place .exit) .sheet)) r ⌝ }
+    ensures one { λ r. ⌜ OneReading (now (bytes .entry)) ⌝ }
     ensures counting { λ r. ⌜ C·Sheets .own (now (place .exit) .sheet) ≡ C·Sheets .own (now (place .entry) .sheet) ⌝ }
     ensures kept { λ r. ⌜ (isErr r ≡ true → now (place .exit) ≡ now (place .entry)) ⌝ }
 {

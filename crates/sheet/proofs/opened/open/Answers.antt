@@ -6,7 +6,7 @@ use Rattle.std.specs.declared.result.Result.the-variants.{Ok, Err}
 use Rattle.std.proofs.shelf.Tests.{false≢true}
 use Rattle.sheet.specs.Opening.{Means, basis-of}
 use Rattle.tables.specs.declared.basis.Basis.{Basis}
-use Rattle.sheet.proofs.opened.open.Given as given
+use Rattle.sheet.proofs.Readings.{one-way}
 use Rattle.sheet.proofs.opened.open.Needs as need
 
 same-basis : {x y z x′ y′ z′ : ℕ} → x ≡ x′ → y ≡ y′ → z ≡ z′ → _≡_ {A = Basis} (record { code = x; full = y; largest = z }) (record { code = x′; full = y′; largest = z′ })
@@ -21,6 +21,7 @@ returns-in-Ok g c =
     let sealed = subst (λ t. Means asked (c .args .bytes .now) (Ok t)) (sym (c .seal .ensures .1)) (c .in-Ok .ensures tt) in
     record {
       meaning = subst (λ k. Means k (c .args .bytes .now) (Ok (g .C·Sheets .held (c .seal .result)))) b sealed;
+      one = one-way (c .args .bytes .now);
       counting = c .seal .ensures .0 ∙ own;
       kept = λ e. absurd (false≢true e);
     }
@@ -32,6 +33,7 @@ returns-in-Err g c =
     let b = same-basis (c .code .ensures ∙ ap (C .tag) own) (c .full-right .ensures ∙ ap (λ x. C .operations x .full) own) (c .largest-entry .ensures ∙ ap (λ x. C .operations x .largest) own) in
     record {
       meaning = subst (λ k. Means k (c .args .bytes .now) (Err (c .in-Err .fault))) b (c .in-Err .ensures tt);
+      one = one-way (c .args .bytes .now);
       counting = refl;
       kept = λ e. refl;
     }
