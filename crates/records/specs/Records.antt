@@ -1,8 +1,8 @@
 -- A record as its bytes: one byte of kind, then a body whose length the kind fixes.
 use mathlib.Core.Path.{_≡_}
-use mathlib.Core.Bool.{Bool, true, false}
 use mathlib.Core.List.{List, [], _∷_, _++_}
-use Prim.Native.Nat.{ℕ, _/_, _%_}
+use Prim.Native.Nat.{ℕ, _/_, _%_, _≤_}
+use lib.ListN.{getD}
 use Rattle.records.specs.declared.record.Quad.{Quad}
 use Rattle.records.specs.declared.record.Record.{Record}
 use Rattle.records.specs.declared.record.Record.the-variants.{Head, Name, Pure, Public, Channel, Entry, Stop, Send, Receive, Both, Copy, New, Test, Begin, End}
@@ -36,28 +36,14 @@ codes (Test left right same other) = 22 ∷ left ∷ right ∷ (two same ++ two 
 codes (Begin names next) = 23 ∷ (quad names ++ two next)
 codes (End names next) = 24 ∷ (quad names ++ two next)
 
+-- the kind of a record, its first byte; nodes have the kinds from 16 on
+abbrev pub kind : Record → ℕ
+kind r = getD (codes r) 0 0
+
+-- no record of this kind or above stands in front of these bytes
+abbrev pub NoRecord : ℕ → List ℕ → Type 0
+NoRecord from bytes = (r : Record) (rest : List ℕ) → from ≤ kind r → codes r ++ rest ≡ bytes → ⊥
+
 -- no record stands in front of these bytes: it is cut off, of an unknown kind, or there are none
 abbrev pub Unreadable : List ℕ → Type 0
 Unreadable bytes = (r : Record) (rest : List ℕ) → codes r ++ rest ≡ bytes → ⊥
-
--- nodes are the records of kind 16 and above
-abbrev pub is-node : Record → Bool
-is-node (Head edition code full) = false
-is-node (Name sort) = false
-is-node Pure = false
-is-node Public = false
-is-node (Channel count components) = false
-is-node (Entry amount items) = false
-is-node Stop = true
-is-node (Send channel count names) = true
-is-node (Receive channel count names next) = true
-is-node (Both first second) = true
-is-node (Copy next) = true
-is-node (New name next) = true
-is-node (Test left right same other) = true
-is-node (Begin names next) = true
-is-node (End names next) = true
-
--- no node's record stands in front of these bytes
-abbrev pub NoNode : List ℕ → Type 0
-NoNode bytes = (r : Record) (rest : List ℕ) → is-node r ≡ true → codes r ++ rest ≡ bytes → ⊥

@@ -2,7 +2,7 @@
 ghost use mathlib.Core.Path.{_≡_};
 ghost use mathlib.Core.List.{_++_};
 ghost use Rattle.std.specs.Options.{Cases};
-ghost use Rattle.records.specs.Records.{codes, Unreadable, NoNode};
+ghost use Rattle.records.specs.Records.{codes, Unreadable, NoRecord};
 
 /// Four bytes as they stand in a record; those that are not used stand last and hold 255.
 #[derive(Clone, Copy, PartialEq, Eq, Debug)]
@@ -110,9 +110,9 @@ pub fn read(bytes: &[u8]) -> Option<(Record, &[u8])>
     }
 }
 
-/// The node in front of `bytes` and what follows it, or none where no node's record stands in front.
+/// The record of kind 16 or above, a node, in front of `bytes` and what follows it, or none where no such stands in front.
 fn read_node(bytes: &[u8]) -> Option<(Record, &[u8])>
-    ensures { λ r. ⌜ Cases r (NoNode (now (bytes .entry))) (λ x. codes (x .0) ++ now (x .1) ≡ now (bytes .entry)) ⌝ }
+    ensures { λ r. ⌜ Cases r (NoRecord 16 (now (bytes .entry))) (λ x. codes (x .0) ++ now (x .1) ≡ now (bytes .entry)) ⌝ }
 {
     match bytes {
         [16, rest @ ..] => Some((Record::Stop, rest)),
@@ -143,6 +143,15 @@ fn read_node(bytes: &[u8]) -> Option<(Record, &[u8])>
             let second = u16::from_le_bytes([*s0, *s1]);
             Some((Record::Both { first, second }, rest))
         }
+        _ => read_step(bytes),
+    }
+}
+
+/// The record of kind 20 or above in front of `bytes` and what follows it, or none where no such stands in front.
+fn read_step(bytes: &[u8]) -> Option<(Record, &[u8])>
+    ensures { λ r. ⌜ Cases r (NoRecord 20 (now (bytes .entry))) (λ x. codes (x .0) ++ now (x .1) ≡ now (bytes .entry)) ⌝ }
+{
+    match bytes {
         [20, n0, n1, rest @ ..] => {
             let next = u16::from_le_bytes([*n0, *n1]);
             Some((Record::Copy { next }, rest))
