@@ -8,7 +8,7 @@ use native.Mathlib.Omega.{arith}
 use lib.ListN.{length, getD, take, length-append}
 use Rattle.std.specs.Joined.{joined}
 use Rattle.std.specs.declared.option.Option.the-variants.{Some, None}
-use Rattle.std.proofs.shelf.Lists.{take-more, joined-more}
+use Rattle.std.proofs.shelf.Lists.{take-more, joined-more, getD-past}
 use Rattle.std.proofs.shelf.Tests.{and-parts, cases-lt}
 use Rattle.fault.specs.First.{First, Precedes, Lowest}
 use Rattle.fault.specs.declared.fault.Fault.{Fault}
@@ -18,9 +18,12 @@ use Rattle.tables.specs.Encoding.{type-records}
 use Rattle.tables.specs.Range.{all, all-from, below, type-fits, node-fits, ranged, totals}
 use Rattle.sheet.specs.Tree.{misgrown}
 use Rattle.sheet.specs.Scope.{Misnamed}
-use Rattle.sheet.specs.Types.{Misformed}
-use Rattle.sheet.specs.Opening.{type-place, node-place, Crooked, not-a-tree, out-of-scope, bad-type}
+use Rattle.tables.specs.Channels.{entries}
+use Rattle.sheet.specs.Types.{Misformed, type-at}
+use Rattle.sheet.specs.Opening.{type-place, node-place, Limited, Crooked, not-a-tree, out-of-scope, bad-type}
+use Rattle.tables.specs.declared.tables.Node.{Node}
 use Rattle.tables.specs.declared.tables.SheetType.{SheetType}
+use Rattle.tables.specs.declared.tables.SheetType.the-variants.{Pure}
 use Rattle.tables.specs.declared.tables.Tables.{Tables}
 
 -- the records of one type more
@@ -38,6 +41,17 @@ types-rise (suc i) (suc j) [] h = omega arith
 types-rise (suc i) (suc j) (x ∷ xs) h =
     let more = types-rise i j xs (omega arith) in
     omega (arith, more, length-append (type-records x) (joined type-records (take i xs)), length-append (type-records x) (joined type-records (take j xs)))
+
+-- what a slice and a count tell of the tables
+pub limited : (t : Tables) (types : List SheetType) (nodes : List Node) (names : ℕ) → types ≡ elements (t .types) → nodes ≡ elements (t .nodes) → names ≡ length (elements (t .names))
+    → length types ≤ 64 → length nodes ≤ 1024 → names ≤ 64 → ((i : ℕ) → i < length types → length (entries (type-at types i)) ≤ 8) → Limited t
+limited t types nodes names a b c l m n each = record {
+  types = omega (arith, ap length a);
+  names = omega arith;
+  nodes = omega (arith, ap length b);
+  entries = λ i. subst (λ xs. length (entries (type-at xs i)) ≤ 8) a
+    (⊎-elim (each i) (λ past. subst (λ x. length (entries x) ≤ 8) (sym (getD-past types i Pure past)) (omega arith)) (cases-lt i (length types)))
+}
 
 -- of tables in range the nodes are
 pub nodes-fit : (largest : ℕ) (t : Tables) → ranged largest (totals t) t ≡ true → all (node-fits (length (elements (t .names))) (length (elements (t .nodes)))) (elements (t .nodes)) ≡ true

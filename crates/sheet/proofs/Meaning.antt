@@ -20,7 +20,7 @@ use Rattle.records.specs.Records.{codes, Unreadable}
 use Rattle.tables.specs.Encoding.{records}
 use Rattle.sheet.specs.Order.{census, misplaced-at, Ordered, Unfinished, cut, wrong, none}
 use Rattle.sheet.specs.Filling.{FitsAt, Readable, Spells}
-use Rattle.sheet.specs.Opening.{Reading, Crooked, not-a-tree, out-of-scope, bad-type, Faulty, unreadable, wrong-order, no-node, out-of-range, crooked, Sound, Means}
+use Rattle.sheet.specs.Opening.{Reading, Limited, Crooked, not-a-tree, out-of-scope, bad-type, Faulty, unreadable, wrong-order, no-node, out-of-range, crooked, Sound, Means}
 use Rattle.tables.specs.declared.basis.Basis.{Basis}
 use Rattle.sheet.specs.declared.census.Census.{Census}
 use Rattle.records.specs.declared.record.Record.{Record}
@@ -103,12 +103,12 @@ module _ (b : Basis) (given : List ℕ) (n : Census) (rs : List Record) (all : R
     unfolding look
     check-means f h = (look t, (crooked spells (h .0), λ g e. h .1 g (only-crooked g e)))
 
-    pub sheet-means : 0 < length (elements (t .nodes)) → First (Crooked t) None → Means b given (Ok t)
+    pub sheet-means : 0 < length (elements (t .nodes)) → Limited t → First (Crooked t) None → Means b given (Ok t)
     unfolding look
-    sheet-means some h = (
+    sheet-means some few h = (
       look t,
       (λ g e. h g (only-crooked g e)),
       refl,
       ap (joined codes) (spells .in-order) ∙ all .whole,
-      record { in-range = spells .in-range; some = some; straight = h },
+      record { in-range = spells .in-range; some = some; limited = few; straight = h },
     )

@@ -2,7 +2,7 @@
 use mathlib.Core.Path.{_≡_, refl, sym, ap, ap₂, subst, _∙_}
 use mathlib.Core.Bool.{true, false, _&&_}
 use mathlib.Core.List.{List, [], _∷_}
-use Prim.Native.Nat.{ℕ, zero, suc, _<_}
+use Prim.Native.Nat.{ℕ, zero, suc, _<_, _≤_}
 use native.Mathlib.Omega.{arith}
 use lib.ListN.{length}
 use Rattle.fault.specs.declared.fault.Fault.{Fault}
@@ -11,6 +11,8 @@ use Rattle.tables.specs.Elements.{elements}
 use Rattle.tables.specs.Range.{totals, ranged, all, all-from, below, type-fits, node-fits}
 use Rattle.sheet.specs.Tree.{node-at, misgrown}
 use Rattle.sheet.specs.Scope.{member, repeats, binds, uses, Misnamed, binds-twice, bound-already, out-of-scope}
+use Rattle.tables.specs.Channels.{entries}
+use Rattle.sheet.specs.Types.{type-at}
 use Rattle.sheet.specs.Opening as opening
 use Rattle.tables.specs.declared.tables.Node.{Node}
 use Rattle.tables.specs.declared.tables.Node.the-variants.{Stop}
@@ -31,6 +33,14 @@ module _ (t : Tables) (one : opening.OneStop t) where
   straight f (opening.out-of-scope n l e) = stop-names n (single n l) (subst (λ xs. Misnamed xs n) (one .nodes) e)
   straight f (opening.bad-type i l e) = omega (arith, ap length (one .types))
 
+  few : opening.Limited t
+  few = record {
+    types = omega (arith, ap length (one .types));
+    names = omega (arith, ap length (one .names));
+    nodes = omega (arith, ap length (one .nodes));
+    entries = λ i. subst (λ xs. length (entries (type-at xs i)) ≤ 8) (sym (one .types)) (omega arith)
+  }
+
   pub one-stop-sound : (largest : ℕ) → opening.Sound largest t
   one-stop-sound largest =
       let e = one .types in
@@ -41,5 +51,6 @@ module _ (t : Tables) (one : opening.OneStop t) where
             ap₂ (λ xs ys. all-from (type-fits largest (length ys)) 0 xs && (below (length xs) ys && all (node-fits (length ys) (length (elements (t .nodes)))) (elements (t .nodes)))) e f
             ∙ ap (λ zs. all (node-fits 0 (length zs)) zs) g;
         some = omega (arith, ap length g);
+        limited = few;
         straight = straight;
       }

@@ -2,7 +2,7 @@
 use mathlib.Core.Path.{_≡_}
 use mathlib.Core.Bool.{true, false}
 use mathlib.Core.List.{List, [], _∷_, _++_}
-use Prim.Native.Nat.{ℕ, suc, _+_, _<_}
+use Prim.Native.Nat.{ℕ, suc, _+_, _<_, _≤_}
 use lib.ListN.{length, take}
 use Rattle.std.specs.Joined.{joined}
 use Rattle.std.specs.declared.option.Option.{Option}
@@ -20,7 +20,8 @@ use Rattle.tables.specs.Range.{totals, ranged}
 use Rattle.sheet.specs.Order.{census, misplaced-at}
 use Rattle.sheet.specs.Tree.{misgrown}
 use Rattle.sheet.specs.Scope.{Misnamed}
-use Rattle.sheet.specs.Types.{Misformed}
+use Rattle.tables.specs.Channels.{entries}
+use Rattle.sheet.specs.Types.{Misformed, type-at}
 use Rattle.sheet.specs.Filling.{FitsAt, Spells}
 use Rattle.tables.specs.declared.basis.Basis.{Basis}
 use Rattle.records.specs.declared.record.Record.{Record}
@@ -67,10 +68,19 @@ pub data Faulty (b : Basis) {given : List ℕ} (R : Reading given) : Fault → T
   -- 4 to 6
   crooked : {f : Fault} → Spells b (R .records) (R .sheet) → Crooked (R .sheet) f → Faulty b R f
 
--- what opening establishes of tables: all fields are in range, there is a node, and there is no fault
+-- no table has more than its limit
+pub record Limited (t : Tables) : Type 0 where
+  pub types : length (elements (t .types)) ≤ 64
+  pub names : length (elements (t .names)) ≤ 64
+  pub nodes : length (elements (t .nodes)) ≤ 1024
+  pub entries : (i : ℕ) → length (entries (type-at (elements (t .types)) i)) ≤ 8
+
+-- what opening establishes of tables: all fields are in range, there is a node, no table has more than its limit, and
+-- there is no fault
 pub record Sound (largest : ℕ) (t : Tables) : Type 0 where
   pub in-range : ranged largest (totals t) t ≡ true
   pub some : 0 < length (elements (t .nodes))
+  pub limited : Limited t
   pub straight : (f : Fault) → Crooked t f → ⊥
 
 -- the answer as a fault or none

@@ -1,7 +1,9 @@
 //! The sheets of the two countings that are built.
 ghost use mathlib.Core.Path.{_≡_};
 ghost use mathlib.Core.Bool.{true};
-ghost use Prim.Native.Nat.{_<_};
+ghost use Prim.Native.Nat.{ℕ, _<_, _≤_};
+ghost use Rattle.tables.specs.Channels.{entries};
+ghost use Rattle.sheet.specs.Types.{type-at};
 ghost use lib.ListN.{length};
 ghost use Rattle.fault.specs.declared.fault.Fault.{Fault};
 ghost use Rattle.tables.specs.Elements.{elements};
@@ -21,6 +23,10 @@ pub struct PartsSheet {
     tables: Tables,
     ghost ranged: { ranged 100000 (totals tables) tables ≡ true },
     ghost some: { 0 < length (elements (tables .nodes)) },
+    ghost types: { length (elements (tables .types)) ≤ 64 },
+    ghost names: { length (elements (tables .names)) ≤ 64 },
+    ghost nodes: { length (elements (tables .nodes)) ≤ 1024 },
+    ghost entries: { (i : ℕ) → length (entries (type-at (elements (tables .types)) i)) ≤ 8 },
     ghost straight: { (f : Fault) → Crooked tables f → ⊥ },
 }
 
@@ -52,6 +58,10 @@ pub struct OnceSheet {
     tables: Tables,
     ghost ranged: { ranged 1 (totals tables) tables ≡ true },
     ghost some: { 0 < length (elements (tables .nodes)) },
+    ghost types: { length (elements (tables .types)) ≤ 64 },
+    ghost names: { length (elements (tables .names)) ≤ 64 },
+    ghost nodes: { length (elements (tables .nodes)) ≤ 1024 },
+    ghost entries: { (i : ℕ) → length (entries (type-at (elements (tables .types)) i)) ≤ 8 },
     ghost straight: { (f : Fault) → Crooked tables f → ⊥ },
 }
 

@@ -8,7 +8,9 @@ ghost use Rattle.fault.specs.First.{First};
 ghost use Rattle.tables.specs.Elements.{elements};
 ghost use Rattle.tables.specs.Encoding.{type-records};
 ghost use Rattle.tables.specs.Range.{ranged, totals};
-ghost use Rattle.sheet.specs.Opening.{Crooked, fault-of, node-place, type-place};
+ghost use Rattle.tables.specs.Channels.{entries};
+ghost use Rattle.sheet.specs.Types.{type-at};
+ghost use Rattle.sheet.specs.Opening.{Crooked, Limited, fault-of};
 use crate::scope::first_misnamed;
 use crate::tree::first_misgrown;
 use crate::types::first_misformed;
@@ -20,6 +22,7 @@ use tables::tables::Tables;
 fn records_of_type(given: &SheetType) -> usize
     ensures value { λ r. ⌜ r ≡ length (type-records (now (given .entry))) ⌝ }
     ensures few { λ r. ⌜ r ≤ 9 ⌝ }
+    ensures entries { λ r. ⌜ length (entries (now (given .entry))) ≤ 8 ⌝ }
 {
     match given {
         SheetType::Pure | SheetType::Public => 1,
@@ -32,6 +35,7 @@ fn records_of_types(types: &[SheetType]) -> usize
     requires { ⌜ length (now types) ≤ 64 ⌝ }
     ensures value { λ r. ⌜ r ≡ length (joined type-records (now (types .entry))) ⌝ }
     ensures few { λ r. ⌜ r ≤ 576 ⌝ }
+    ensures each { λ r. ⌜ ((i : ℕ) → i < length (now (types .entry)) → length (entries (type-at (now (types .entry)) i)) ≤ 8) ⌝ }
 {
     let mut count = 0;
     for given in types {
@@ -43,7 +47,8 @@ fn records_of_types(types: &[SheetType]) -> usize
 /// The first fault of tables whose fields are in range, or none.
 pub(crate) fn check(tables: &Tables) -> Result<(), Fault>
     requires { ⌜ ((largest : ℕ) × (ranged largest (totals (now tables)) (now tables) ≡ true)) ⌝ }
-    ensures { λ r. ⌜ First (Crooked (now (tables .entry))) (fault-of r) ⌝ }
+    ensures first { λ r. ⌜ First (Crooked (now (tables .entry))) (fault-of r) ⌝ }
+    ensures limits { λ r. ⌜ Limited (now (tables .entry)) ⌝ }
 {
     let types = tables.types.as_slice();
     let nodes = tables.nodes.as_slice();

@@ -15,7 +15,7 @@ use Rattle.sheet.specs.Tree.{misgrown}
 use Rattle.sheet.specs.Scope.{Misnamed}
 use Rattle.sheet.specs.Types.{Misformed}
 use Rattle.sheet.specs.Opening.{Crooked, node-place, type-place}
-use Rattle.sheet.proofs.Checking.{nodes-fit, first-tree, first-scope, first-type, none-crooked}
+use Rattle.sheet.proofs.Checking.{limited, nodes-fit, first-tree, first-scope, first-type, none-crooked}
 use Rattle.sheet.proofs.Scanning.{is-false}
 use Rattle.sheet.proofs.check.check.Needs as need
 
@@ -32,7 +32,10 @@ returns-in-Some c =
     let records = c .records-of-types .ensures .value ∙ ap (λ xs. length (joined type-records xs)) (c .as-slice-types .ensures .value) in
     let place : 1 + c .records-of-types .result + c .len .result + n ≡ node-place t n = omega (arith, records, c .len .ensures .value) in
     let low = subst (λ xs. Lowest (λ k. misgrown xs k ≡ true) (length xs) (Some n)) (c .as-slice-nodes .ensures .value) (c .in-Some .ensures tt) in
-    subst (λ p. First (Crooked t) (Some (NotATree p))) (sym place) (first-tree t n low)
+    record {
+      first = subst (λ p. First (Crooked t) (Some (NotATree p))) (sym place) (first-tree t n low);
+      limits = limited t _ _ _ (c .as-slice-types .ensures .value) (c .as-slice-nodes .ensures .value) (c .len .ensures .value) (c .as-slice-types .ensures .within) (c .as-slice-nodes .ensures .within) (c .len .ensures .within) (c .records-of-types .ensures .each)
+    }
 
 pub first-misnamed-requires : need.first-misnamed-requires
 first-misnamed-requires c κs =
@@ -57,7 +60,10 @@ returns-in-Some-first-misnamed c =
     let place : 1 + c .records-of-types .result + c .len .result + n ≡ node-place t n = omega (arith, records, c .len .ensures .value) in
     let tree = subst (λ xs. Lowest (λ k. misgrown xs k ≡ true) (length xs) None) e (c .in-rest .ensures tt) in
     let low = subst (λ xs. Lowest (Misnamed xs) (length xs) (Some n)) e (c .in-Some-first-misnamed .ensures tt) in
-    subst (λ p. First (Crooked t) (Some (OutOfScope p))) (sym place) (first-scope t tree n low)
+    record {
+      first = subst (λ p. First (Crooked t) (Some (OutOfScope p))) (sym place) (first-scope t tree n low);
+      limits = limited t _ _ _ (c .as-slice-types .ensures .value) (c .as-slice-nodes .ensures .value) (c .len .ensures .value) (c .as-slice-types .ensures .within) (c .as-slice-nodes .ensures .within) (c .len .ensures .within) (c .records-of-types .ensures .each)
+    }
 
 pub records-of-types-requires-in-Some-first-misformed :
     need.records-of-types-requires-in-Some-first-misformed
@@ -76,7 +82,10 @@ returns-in-Some-first-misformed c =
     let tree = subst (λ xs. Lowest (λ k. misgrown xs k ≡ true) (length xs) None) e (c .in-rest .ensures tt) in
     let scope = subst (λ xs. Lowest (Misnamed xs) (length xs) None) e (c .in-rest-first-misnamed .ensures tt) in
     let low = subst (λ xs. Lowest (Misformed xs) (length xs) (Some i)) (c .as-slice-types .ensures .value) (c .in-Some-first-misformed .ensures tt) in
-    subst (λ p. First (Crooked t) (Some (BadType p))) (sym place) (first-type t tree scope i low)
+    record {
+      first = subst (λ p. First (Crooked t) (Some (BadType p))) (sym place) (first-type t tree scope i low);
+      limits = limited t _ _ _ (c .as-slice-types .ensures .value) (c .as-slice-nodes .ensures .value) (c .len .ensures .value) (c .as-slice-types .ensures .within) (c .as-slice-nodes .ensures .within) (c .len .ensures .within) (c .records-of-types .ensures .each)
+    }
 
 pub returns : need.returns
 returns c =
@@ -85,4 +94,7 @@ returns c =
     let tree = subst (λ xs. Lowest (λ k. misgrown xs k ≡ true) (length xs) None) e (c .in-rest .ensures tt) in
     let scope = subst (λ xs. Lowest (Misnamed xs) (length xs) None) e (c .in-rest-first-misnamed .ensures tt) in
     let types = subst (λ xs. Lowest (Misformed xs) (length xs) None) (c .as-slice-types .ensures .value) (c .in-rest-first-misformed .ensures tt) in
-    none-crooked t tree scope types
+    record {
+      first = none-crooked t tree scope types;
+      limits = limited t _ _ _ (c .as-slice-types .ensures .value) (c .as-slice-nodes .ensures .value) (c .len .ensures .value) (c .as-slice-types .ensures .within) (c .as-slice-nodes .ensures .within) (c .len .ensures .within) (c .records-of-types .ensures .each)
+    }

@@ -1,5 +1,6 @@
-use mathlib.Core.Path.{_≡_, sym, ap, _∙_}
-use Prim.Native.Nat.{_+_}
+use mathlib.Core.Path.{_≡_, sym, ap, subst, _∙_}
+use Prim.Native.Nat.{_+_, _≤_}
+use Rattle.tables.specs.Channels.{entries}
 use native.Mathlib.Omega.{arith}
 use lib.ListN.{length}
 use Rattle.std.proofs.shelf.Lists.{length-map}
@@ -14,4 +15,4 @@ returns-in-Channel c =
     let is = ap (λ (x : SheetType). length (type-records x)) (c .in-Channel .is) in
     let es = c .in-Channel .channel .entries in
     let long = length-map (elements es) entry-record in
-    record { value = omega (arith, is, long, len .value); few = omega (arith, len .within) }
+    record { value = omega (arith, is, long, len .value); few = omega (arith, len .within); entries = subst (λ x. length (entries x) ≤ 8) (sym (c .in-Channel .is)) (omega (arith, len .value, len .within)) }

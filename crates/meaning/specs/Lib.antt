@@ -1,0 +1,4 @@
+pub mod Labels
+pub mod Types
+pub mod Processes
+pub mod Scopes
