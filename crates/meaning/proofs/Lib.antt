@@ -1,1 +1,3 @@
 pub mod Unfolding
+pub mod Scoping
+pub mod Scopes
