@@ -77,7 +77,6 @@ node-passes p (x ∷ xs) (suc n) l h = node-passes p xs n (omega arith) (and-par
 
 module _ (nodes : List Node) (names : ℕ) (few : names ≤ 64) (tree : (n : ℕ) → n < length nodes → misgrown nodes n ≡ false) (named : (n : ℕ) → n < length nodes → Misnamed nodes n → ⊥)
     (fits : (n : ℕ) → n < length nodes → node-fits names (length nodes) (node-at nodes n) ≡ true) where
-
   module _ (n : ℕ) (there : n < length nodes) (Γ : Scope) (at : Scope-of nodes names n Γ)
       (go : (c : ℕ) → n < c → (Δ : Scope) → Scope-of nodes names c Δ → Scoped Δ (process-at nodes c)) where
     used : (x : ℕ) → ltb x names ≡ true → member x (uses (node-at nodes n)) ≡ true → in-scope Γ x ≡ true
@@ -96,7 +95,7 @@ module _ (nodes : List Node) (names : ℕ) (few : names ≤ 64) (tree : (n : ℕ
     kid c zs l m e b =
         go c (higher nodes tree c n m) (lists.extend zs Γ)
         (subst (λ ys. Scope-of nodes names c (lists.extend ys Γ)) e
-          (child-scope nodes names few tree named n there Γ at c (ltb-true c (length nodes) l) m (ap (below names) e ∙ b)))
+        (child-scope nodes names few tree named n there Γ at c (ltb-true c (length nodes) l) m (ap (below names) e ∙ b)))
 
     by-node : (x : Node) → node-at nodes n ≡ x → node-fits names (length nodes) x ≡ true → Scoped Γ (shape (process-at nodes) x)
     by-node Stop e f = tt
@@ -162,7 +161,7 @@ module _ (nodes : List Node) (names : ℕ) (few : names ≤ 64) (tree : (n : ℕ
   root-scope = record {
     only = λ x h. let p = and-parts (ltb x names) (not (bound nodes x)) h in (ltb-true x names (p .0), inl (not-true (bound nodes x) (p .1)));
     each = λ x r. and-from (ltb x names) (not (bound nodes x)) (lt-ltb x names (r .0))
-      (not-from-false (bound nodes x) (⊎-elim (λ f. f) (λ o. let l = lower nodes names few tree named (o .2) in absurd (omega arith)) (r .1)))
+        (not-from-false (bound nodes x) (⊎-elim (λ f. f) (λ o. let l = lower nodes names few tree named (o .2) in absurd (omega arith)) (r .1)));
   }
 
 module _ (largest : ℕ) (t : Tables) (sound : opening.Sound largest t) where

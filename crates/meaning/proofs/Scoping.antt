@@ -30,9 +30,9 @@ find-binder (y ∷ ys) x h =
     ⊎-elim
     (λ here. (0, record { here = here; first = λ a l. absurd (omega arith) }))
     (λ away.
-      let rest : bound ys x ≡ true = ⊎-elim (λ here. absurd (both-ways _ away here)) (λ r. r) (or-cases (member x (binds y)) (bound ys x) h) in
-      let found = find-binder ys x rest in
-      (suc (found .0), record { here = found .1 .here; first = later y ys x (found .0) away (found .1 .first) }))
+    let rest : bound ys x ≡ true = ⊎-elim (λ here. absurd (both-ways _ away here)) (λ r. r) (or-cases (member x (binds y)) (bound ys x) h) in
+    let found = find-binder ys x rest in
+    (suc (found .0), record { here = found .1 .here; first = later y ys x (found .0) away (found .1 .first) }))
     (cases-bool (member x (binds y)))
 
 pub is-bound : (nodes : List Node) (x b : ℕ) → member x (binds (node-at nodes b)) ≡ true → bound nodes x ≡ true
@@ -99,20 +99,20 @@ module _ (nodes : List Node) (names : ℕ) (few : names ≤ 64) (tree : (n : ℕ
     use-scoped x l u =
         and-from (ltb x 64) (Γ x) (lt-ltb x 64 (omega arith))
         (⊎-elim
-          (λ b. ⊎-elim (λ t. t) (λ f.
-            let found = find-binder nodes x b in
-            absurd (scoped n there (out-of-scope x (found .0) (found .1) u (λ o. both-ways (Γ x) f (at .each x (l, inr (found .0, found .1, o))))))) (cases-bool (Γ x)))
-          (λ f. at .each x (l, inl f))
-          (cases-bool (bound nodes x)))
+        (λ b. ⊎-elim (λ t. t) (λ f.
+        let found = find-binder nodes x b in
+        absurd (scoped n there (out-of-scope x (found .0) (found .1) u (λ o. both-ways (Γ x) f (at .each x (l, inr (found .0, found .1, o))))))) (cases-bool (Γ x)))
+        (λ f. at .each x (l, inl f))
+        (cases-bool (bound nodes x)))
 
     -- a name that is bound there is new
     pub bind-fresh : (x : ℕ) → member x (binds (node-at nodes n)) ≡ true → Γ x ≡ false
     bind-fresh x h =
         ⊎-elim
         (λ t. ⊎-elim
-          (λ f. absurd (both-ways (bound nodes x) f (is-bound nodes x n h)))
-          (λ o. absurd (scoped n there (bound-already x (o .0) (lower (o .2)) (o .1 .here) h)))
-          (at .only x t .1))
+        (λ f. absurd (both-ways (bound nodes x) f (is-bound nodes x n h)))
+        (λ o. absurd (scoped n there (bound-already x (o .0) (lower (o .2)) (o .1 .here) h)))
+        (at .only x t .1))
         (λ f. f)
         (cases-bool (Γ x))
 
@@ -120,21 +120,21 @@ module _ (nodes : List Node) (names : ℕ) (few : names ≤ 64) (tree : (n : ℕ
     binder : (x : ℕ) → member x (binds (node-at nodes n)) ≡ true → Binder nodes x n
     binder x h = record {
       here = h;
-      first = λ a l. ⊎-elim (λ t. absurd (scoped n there (bound-already x a l t h))) (λ f. f) (cases-bool (member x (binds (node-at nodes a))))
+      first = λ a l. ⊎-elim (λ t. absurd (scoped n there (bound-already x a l t h))) (λ f. f) (cases-bool (member x (binds (node-at nodes a))));
     }
 
     -- the scope of a child
     pub child-scope : (c : ℕ) → c < length nodes → member c (children (node-at nodes n)) ≡ true → below names (binds (node-at nodes n)) ≡ true → Scope-of nodes names c (lists.extend (binds (node-at nodes n)) Γ)
     child-scope c l h small = record {
       only = λ x t. ⊎-elim
-        (λ m. (below-member names (binds (node-at nodes n)) x small m, inr (n, binder x m, child h)))
-        (λ g. let r = at .only x g in (r .0, ⊎-elim inl (λ o. inr (o .0, o .1, further (o .2) h)) (r .1)))
-        (extend-cases (binds (node-at nodes n)) Γ x t);
+          (λ m. (below-member names (binds (node-at nodes n)) x small m, inr (n, binder x m, child h)))
+          (λ g. let r = at .only x g in (r .0, ⊎-elim inl (λ o. inr (o .0, o .1, further (o .2) h)) (r .1)))
+          (extend-cases (binds (node-at nodes n)) Γ x t);
       each = λ x r. ⊎-elim
-        (λ f. extend-keeps (binds (node-at nodes n)) Γ x (at .each x (r .0, inl f)))
-        (λ o. ⊎-elim
+          (λ f. extend-keeps (binds (node-at nodes n)) Γ x (at .each x (r .0, inl f)))
+          (λ o. ⊎-elim
           (λ e. extend-member (binds (node-at nodes n)) Γ x (subst (λ k. member x (binds (node-at nodes k)) ≡ true) e (o .1 .here)))
           (λ b. extend-keeps (binds (node-at nodes n)) Γ x (at .each x (r .0, inr (o .0, o .1, b))))
           (up l h (o .2)))
-        (r .1)
+          (r .1);
     }

@@ -50,7 +50,7 @@ limited t types nodes names a b c l m n each = record {
   names = omega arith;
   nodes = omega (arith, ap length b);
   entries = λ i. subst (λ xs. length (entries (type-at xs i)) ≤ 8) a
-    (⊎-elim (each i) (λ past. subst (λ x. length (entries x) ≤ 8) (sym (getD-past types i Pure past)) (omega arith)) (cases-lt i (length types)))
+      (⊎-elim (each i) (λ past. subst (λ x. length (entries x) ≤ 8) (sym (getD-past types i Pure past)) (omega arith)) (cases-lt i (length types)));
 }
 
 -- of tables in range the nodes are

@@ -38,7 +38,7 @@ module _ (t : Tables) (one : opening.OneStop t) where
     types = omega (arith, ap length (one .types));
     names = omega (arith, ap length (one .names));
     nodes = omega (arith, ap length (one .nodes));
-    entries = λ i. subst (λ xs. length (entries (type-at xs i)) ≤ 8) (sym (one .types)) (omega arith)
+    entries = λ i. subst (λ xs. length (entries (type-at xs i)) ≤ 8) (sym (one .types)) (omega arith);
   }
 
   pub one-stop-sound : (largest : ℕ) → opening.Sound largest t

@@ -73,7 +73,10 @@ pub impl Sheets for Once as OnceSheets {
     ghost held = { λ s. s .tables };
 
     fn seal(self, tables: Tables) -> OnceSheet {
-        OnceSheet { counting: self, tables }
+        OnceSheet {
+            counting: self,
+            tables,
+        }
     }
 
     fn counting(sheet: &OnceSheet) -> Once {

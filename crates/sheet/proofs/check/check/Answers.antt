@@ -34,7 +34,7 @@ returns-in-Some c =
     let low = subst (λ xs. Lowest (λ k. misgrown xs k ≡ true) (length xs) (Some n)) (c .as-slice-nodes .ensures .value) (c .in-Some .ensures tt) in
     record {
       first = subst (λ p. First (Crooked t) (Some (NotATree p))) (sym place) (first-tree t n low);
-      limits = limited t _ _ _ (c .as-slice-types .ensures .value) (c .as-slice-nodes .ensures .value) (c .len .ensures .value) (c .as-slice-types .ensures .within) (c .as-slice-nodes .ensures .within) (c .len .ensures .within) (c .records-of-types .ensures .each)
+      limits = limited t _ _ _ (c .as-slice-types .ensures .value) (c .as-slice-nodes .ensures .value) (c .len .ensures .value) (c .as-slice-types .ensures .within) (c .as-slice-nodes .ensures .within) (c .len .ensures .within) (c .records-of-types .ensures .each);
     }
 
 pub first-misnamed-requires : need.first-misnamed-requires
@@ -62,7 +62,7 @@ returns-in-Some-first-misnamed c =
     let low = subst (λ xs. Lowest (Misnamed xs) (length xs) (Some n)) e (c .in-Some-first-misnamed .ensures tt) in
     record {
       first = subst (λ p. First (Crooked t) (Some (OutOfScope p))) (sym place) (first-scope t tree n low);
-      limits = limited t _ _ _ (c .as-slice-types .ensures .value) (c .as-slice-nodes .ensures .value) (c .len .ensures .value) (c .as-slice-types .ensures .within) (c .as-slice-nodes .ensures .within) (c .len .ensures .within) (c .records-of-types .ensures .each)
+      limits = limited t _ _ _ (c .as-slice-types .ensures .value) (c .as-slice-nodes .ensures .value) (c .len .ensures .value) (c .as-slice-types .ensures .within) (c .as-slice-nodes .ensures .within) (c .len .ensures .within) (c .records-of-types .ensures .each);
     }
 
 pub records-of-types-requires-in-Some-first-misformed :
@@ -84,7 +84,7 @@ returns-in-Some-first-misformed c =
     let low = subst (λ xs. Lowest (Misformed xs) (length xs) (Some i)) (c .as-slice-types .ensures .value) (c .in-Some-first-misformed .ensures tt) in
     record {
       first = subst (λ p. First (Crooked t) (Some (BadType p))) (sym place) (first-type t tree scope i low);
-      limits = limited t _ _ _ (c .as-slice-types .ensures .value) (c .as-slice-nodes .ensures .value) (c .len .ensures .value) (c .as-slice-types .ensures .within) (c .as-slice-nodes .ensures .within) (c .len .ensures .within) (c .records-of-types .ensures .each)
+      limits = limited t _ _ _ (c .as-slice-types .ensures .value) (c .as-slice-nodes .ensures .value) (c .len .ensures .value) (c .as-slice-types .ensures .within) (c .as-slice-nodes .ensures .within) (c .len .ensures .within) (c .records-of-types .ensures .each);
     }
 
 pub returns : need.returns
@@ -96,5 +96,5 @@ returns c =
     let types = subst (λ xs. Lowest (Misformed xs) (length xs) None) (c .as-slice-types .ensures .value) (c .in-rest-first-misformed .ensures tt) in
     record {
       first = none-crooked t tree scope types;
-      limits = limited t _ _ _ (c .as-slice-types .ensures .value) (c .as-slice-nodes .ensures .value) (c .len .ensures .value) (c .as-slice-types .ensures .within) (c .as-slice-nodes .ensures .within) (c .len .ensures .within) (c .records-of-types .ensures .each)
+      limits = limited t _ _ _ (c .as-slice-types .ensures .value) (c .as-slice-nodes .ensures .value) (c .len .ensures .value) (c .as-slice-types .ensures .within) (c .as-slice-nodes .ensures .within) (c .len .ensures .within) (c .records-of-types .ensures .each);
     }
