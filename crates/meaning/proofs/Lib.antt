@@ -1,3 +1,4 @@
 pub mod Unfolding
 pub mod Scoping
 pub mod Scopes
+pub mod Sizes
