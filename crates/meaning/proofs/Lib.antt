@@ -2,3 +2,4 @@ pub mod Unfolding
 pub mod Scoping
 pub mod Scopes
 pub mod Sizes
+pub mod Opened

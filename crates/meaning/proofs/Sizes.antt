@@ -80,7 +80,7 @@ range-on f a i (suc k) l h =
     (cases-order a i)
 
 -- each of the list is from i on and below e
-abbrev Inside : ℕ → ℕ → List ℕ → Type 0
+abbrev pub Inside : ℕ → ℕ → List ℕ → Type 0
 Inside i e [] = Unit {0}
 Inside i e (a ∷ l) = (i ≤ a) × (a < e) × Inside i e l
 
