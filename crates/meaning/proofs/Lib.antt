@@ -3,3 +3,4 @@ pub mod Scoping
 pub mod Scopes
 pub mod Sizes
 pub mod Opened
+pub mod Judging

@@ -2,3 +2,4 @@ pub mod Labels
 pub mod Types
 pub mod Processes
 pub mod Scopes
+pub mod Judged

@@ -5,6 +5,7 @@ use Rattle.tables.specs.Elements.{elements}
 use Rattle.tables.specs.declared.tables.Tables.{Tables}
 use Rattle.calculus.specs.Processes.{size}
 use Rattle.meaning.specs.Processes.{process-at}
+use Rattle.meaning.proofs.Judging.{checked, judged}
 use Rattle.meaning.proofs.Opened.{entries-small, root-size}
 use Rattle.meaning.proofs.Scopes.{tree-of, sheet-scoped}
 use Rattle.meaning.proofs.Unfolding.{process-unfolds}
@@ -22,4 +23,5 @@ returns g c =
       scoped = sheet-scoped _ _ sound;
       small = subst (λ n. size (process-at (elements (g .C·Sheets .held s .nodes)) 0) ≤ n) (sym count) (root-size K _ sound);
       entries = entries-small K _ sound;
+      judging = (checked K _ _ _ (sheet-scoped _ _ sound), judged K _ _ _);
     }
