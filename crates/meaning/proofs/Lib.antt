@@ -4,3 +4,4 @@ pub mod Scopes
 pub mod Sizes
 pub mod Opened
 pub mod Judging
+pub mod Steps

@@ -115,6 +115,6 @@ module _ (K : Operations) (t : Tables) (sound : Sound (K .largest) t) where
       let some = sound .some in
       let e : suc 0 + (length nodes - 1) ≡ length nodes = omega arith in
       let h = size-le nodes (process-unfolds nodes tree)
-        (λ n l. inside-of (length (elements (t .names))) (length nodes) n (node-at nodes n) (above-all nodes n (tree n l)) (fits-of (K .largest) t sound n l))
-        (λ m p l. named-once nodes m (tree m l) p) 0 (length nodes - 1) e in
+      (λ n l. inside-of (length (elements (t .names))) (length nodes) n (node-at nodes n) (above-all nodes n (tree n l)) (fits-of (K .largest) t sound n l))
+      (λ m p l. named-once nodes m (tree m l) p) 0 (length nodes - 1) e in
       omega arith

@@ -75,8 +75,8 @@ range-on f a i (suc k) l h =
     ⊎-elim
     (λ e. let o = on-same a i (f i) e in let p = range-past f a (suc i) k (omega arith) in let q = ap f e in omega arith)
     (⊎-elim
-      (λ q. absurd (omega arith))
-      (λ q. let t = range-on f a (suc i) k (omega arith) (omega arith) in let o = on-other a i (f i) (λ e. omega arith) in omega arith))
+    (λ q. absurd (omega arith))
+    (λ q. let t = range-on f a (suc i) k (omega arith) (omega arith) in let o = on-other a i (f i) (λ e. omega arith) in omega arith))
     (cases-order a i)
 
 -- each of the list is from i on and below e

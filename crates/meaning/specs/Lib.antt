@@ -3,3 +3,4 @@ pub mod Types
 pub mod Processes
 pub mod Scopes
 pub mod Judged
+pub mod Amounts

@@ -8,6 +8,7 @@ use Rattle.meaning.specs.Processes.{process-at}
 use Rattle.meaning.proofs.Judging.{checked, judged}
 use Rattle.meaning.proofs.Opened.{entries-small, root-size}
 use Rattle.meaning.proofs.Scopes.{tree-of, sheet-scoped}
+use Rattle.meaning.proofs.Steps.{by-steps}
 use Rattle.meaning.proofs.Unfolding.{process-unfolds}
 use Rattle.meaning.proofs.node_count.Needs as need
 
@@ -23,5 +24,6 @@ returns g c =
       scoped = sheet-scoped _ _ sound;
       small = subst (λ n. size (process-at (elements (g .C·Sheets .held s .nodes)) 0) ≤ n) (sym count) (root-size K _ sound);
       entries = entries-small K _ sound;
+      amounts = by-steps K _ sound;
       judging = (checked K _ _ _ (sheet-scoped _ _ sound), judged K _ _ _);
     }
