@@ -3,6 +3,7 @@
 //! A case is a line: a name, a colon, and tokens with a space in front of each. A token is an even number of
 //! hexadecimal digits, or such digits and `*N`, which stands for their bytes N times. Lines that are empty or begin
 //! with `#` are comments.
+#![tactic(auto)]
 ghost use Rattle.std.specs.Prelude.{◌≡◌, ◌++◌, IfOk, string_bytes, codes};
 
 mod spelling;

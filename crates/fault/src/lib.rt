@@ -1,4 +1,6 @@
 //! What a refusal says: its number, the layer that says no, the place, and for amounts the label and the amount.
+#![tactic(auto)]
+
 pub mod fault;
 pub mod items;
 pub mod label;

@@ -1,4 +1,5 @@
 //! The line that answers an input, as the bench prints it.
+#![tactic(auto)]
 pub mod answer;
 pub mod choice;
 pub mod lines;

@@ -1,4 +1,5 @@
 //! Sheets, opened from bytes.
+#![tactic(auto)]
 pub mod built;
 mod census;
 pub mod chart;

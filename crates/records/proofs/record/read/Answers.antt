@@ -7,7 +7,7 @@ returns-in-1 c =
     let l : 7 ≤ length c.args.bytes.now = search rules in
     let k : get_or c.args.bytes.now 0 0 ≡ 1 = search rules in
     let t = taken_apart 7 c.args.bytes.now l in
-    let p0 = four_of _ _ _ _ _ c.from-le-bytes-full.ensures (search rules) (search rules) (search rules) in
+    let p0 = four_of _ _ _ _ _ c.from_le_bytes-full.ensures (search rules) (search rules) (search rules) in
     cc
 
 pub returns-in-2 : goal.returns-in-2
@@ -43,5 +43,5 @@ returns-in-6 c =
     let l : 9 ≤ length c.args.bytes.now = search rules in
     let k : get_or c.args.bytes.now 0 0 ≡ 6 = search rules in
     let t = taken_apart 9 c.args.bytes.now l in
-    let p0 = four_of _ _ _ _ _ c.from-le-bytes-amount.ensures (search rules) (search rules) (search rules) in
+    let p0 = four_of _ _ _ _ _ c.from_le_bytes-amount.ensures (search rules) (search rules) (search rules) in
     cc

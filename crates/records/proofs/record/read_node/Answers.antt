@@ -21,7 +21,7 @@ returns-in-18 c =
     let l : 9 ≤ length c.args.bytes.now = search rules in
     let k : get_or c.args.bytes.now 0 0 ≡ 18 = search rules in
     let t = taken_apart 9 c.args.bytes.now l in
-    let p0 = two_of _ _ _ c.from-le-bytes-next.ensures (search rules) in
+    let p0 = two_of _ _ _ c.from_le_bytes-next.ensures (search rules) in
     cc
 
 pub returns-in-19 : goal.returns-in-19
@@ -29,6 +29,6 @@ returns-in-19 c =
     let l : 5 ≤ length c.args.bytes.now = search rules in
     let k : get_or c.args.bytes.now 0 0 ≡ 19 = search rules in
     let t = taken_apart 5 c.args.bytes.now l in
-    let p0 = two_of _ _ _ c.from-le-bytes-first.ensures (search rules) in
-    let p1 = two_of _ _ _ c.from-le-bytes-second.ensures (search rules) in
+    let p0 = two_of _ _ _ c.from_le_bytes-first.ensures (search rules) in
+    let p1 = two_of _ _ _ c.from_le_bytes-second.ensures (search rules) in
     cc
