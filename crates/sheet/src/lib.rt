@@ -1,5 +1,6 @@
 //! Sheets, opened from bytes.
 #![tactic(auto)]
+
 pub mod built;
 mod census;
 pub mod chart;

@@ -15,5 +15,5 @@ loop-i-preserved c y l =
     let b = c.loop-i.invariant y l₀ in
     let m = noted_more old c.args.n y (take i xs) (option_to_list (nth xs i)) in
     let t = take_nth xs i in
-    let g : c.place-of.result ≡ nth xs i = c.place-of.ensures ∙ c.get.ensures in
+    let g : c.place_of.result ≡ nth xs i = c.place_of.ensures ∙ c.get.ensures in
     cc

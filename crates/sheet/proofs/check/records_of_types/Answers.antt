@@ -7,7 +7,7 @@ use Rattle.sheet.proofs.check.records_of_types.Goals as goal
 pub loop-given-preserved : goal.loop-given-preserved
 loop-given-preserved c =
     let i = c.loop-given.invariant in
-    let one = c.records-of-type-count.ensures in
+    let one = c.records_of_type-count.ensures in
     let k = c.loop-given.given-index in (
       records_more c.args.types.now k _ _ _ c.loop-given-test.true (search rules) i.0 one.value,
       omega (arith, i.1, one.few),

@@ -17,22 +17,22 @@ returns-in-default-last-channel c =
 pub returns-then-not-push : goal.returns-then-not-push
 returns-then-not-push c =
     let room = c.requires.room in
-    let one = c.in-Some-last-channel.ensures in
+    let one = c.in-Some-last_channel.ensures in
     let some = last_channel_is _ _ _ room.2 in
-    let same : c.in-Some-last-channel.channel ≡ room.1 = cc in
+    let same : c.in-Some-last_channel.channel ≡ room.1 = cc in
     λ e h s. omega (arith, ap (λ (x : ChannelType). length (elements x.entries)) same, c.if-not-push.ensures.1, room.3)
 
 pub returns : goal.returns
 returns c =
     let room = c.requires.room in
-    let one = c.in-Some-last-channel.ensures in
+    let one = c.in-Some-last_channel.ensures in
     let some = last_channel_is _ _ _ room.2 in
-    let channel = c.in-Some-last-channel.channel in
+    let channel = c.in-Some-last_channel.channel in
     let same : channel ≡ room.1 = cc in
     let made = c.in-Some.ensures in
     let longer : ChannelType = record { components = channel.components; entries = c.push.new.self } in
     grown_entry room.0 channel longer c.in-Some.made
     made.written made.fits
     (record { last = room.2.last ∙ ap (λ x. room.0 ++ Channel x ∷ []) (sym same) })
-    (record { last = c.replace-last.ensures ∙ ap (λ xs. with_last xs (Channel longer)) room.2.last ∙ with_last_push room.0 (Channel room.1) (Channel longer) })
+    (record { last = c.replace_last.ensures ∙ ap (λ xs. with_last xs (Channel longer)) room.2.last ∙ with_last_push room.0 (Channel room.1) (Channel longer) })
     refl c.if-not-push.ensures refl refl

@@ -19,7 +19,7 @@ loop-left-init c =
     let e = c.in-Some.ensures in
     let z = c.new-tables.ensures in (
       omega (arith, shorter _ _ _ e),
-      (c.requires.0, c.requires.1, started c.args.basis _ _ c.requires.0 c.requires.1 _ _ e (c.head-fits.ensures.0 c.if-not-head-fits.false) _ (record { types = z.0; names = z.1; nodes = z.2 })),
+      (c.requires.0, c.requires.1, started c.args.basis _ _ c.requires.0 c.requires.1 _ _ e (c.head_fits.ensures.0 c.if-not-head_fits.false) _ (record { types = z.0; names = z.1; nodes = z.2 })),
     )
 
 pub returns-in-default-read : goal.returns-in-default-read

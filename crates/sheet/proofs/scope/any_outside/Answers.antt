@@ -15,5 +15,5 @@ returns-then-is-outside c =
 pub loop-i-preserved : goal.loop-i-preserved
 loop-i-preserved c =
     let P = Outside c.args.binders.now c.args.parents.now c.args.n in
-    let here = subst (λ o. Any P (option_to_list o) → ⊥) c.get.ensures (not_from_Decides {P = Any P (option_to_list c.get.result)} _ c.is-outside.ensures c.if-is-outside.false) in
+    let here = subst (λ o. Any P (option_to_list o) → ⊥) c.get.ensures (not_from_Decides {P = Any P (option_to_list c.get.result)} _ c.is_outside.ensures c.if-is_outside.false) in
     any_more P (parts c.args.names.now) c.loop-i.i c.loop-i.invariant here

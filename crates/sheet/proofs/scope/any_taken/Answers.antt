@@ -15,5 +15,5 @@ returns-then-is-taken c =
 pub loop-i-preserved : goal.loop-i-preserved
 loop-i-preserved c =
     let P = Taken c.args.binders.now c.args.n in
-    let here = subst (λ o. Any P (option_to_list o) → ⊥) c.get.ensures (not_from_Decides {P = Any P (option_to_list c.get.result)} _ c.is-taken.ensures c.if-is-taken.false) in
+    let here = subst (λ o. Any P (option_to_list o) → ⊥) c.get.ensures (not_from_Decides {P = Any P (option_to_list c.get.result)} _ c.is_taken.ensures c.if-is_taken.false) in
     any_more P (parts c.args.names.now) c.loop-i.i c.loop-i.invariant here

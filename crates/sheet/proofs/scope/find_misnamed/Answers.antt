@@ -6,7 +6,7 @@ pub returns-then-is-misnamed : goal.returns-then-is-misnamed
 returns-then-is-misnamed c = (c.loop-n-test.true, c.is-misnamed.ensures.0 c.if-is-misnamed.true, c.loop-n.invariant)
 
 pub loop-n-preserved : goal.loop-n-preserved
-loop-n-preserved c = below_more _ _ c.loop-n.invariant (not_from_Decides _ c.is-misnamed.ensures c.if-is-misnamed.false)
+loop-n-preserved c = below_more _ _ c.loop-n.invariant (not_from_Decides _ c.is_misnamed.ensures c.if-is_misnamed.false)
 
 pub returns : goal.returns
 returns c i l = c.loop-n.invariant i (omega arith)

@@ -18,4 +18,4 @@ loop-parent-preserved c =
     (λ o. over_parent _ (c.loop-parent.invariant.0 o) e c.if-parent-b.false, λ o. c.loop-parent.invariant.1 (beyond o e))
 
 pub returns : goal.returns
-returns c = (λ f. absurd (false≢true f), λ o. absurd (over_none (c.loop-parent.invariant.0 o) (sym c.in-default.ensures)))
+returns c = (λ f. absurd (false≢true f), λ o. absurd (over_none (c.loop-parent.invariant.0 o) (sym c.in_default.ensures)))

@@ -4,7 +4,7 @@ use Rattle.tables.specs.Range.{all}
 use Rattle.sheet.specs.Types.{nests}
 use Rattle.sheet.proofs.types.+nests_within.Given as goal
 
-abbrev pub decreases-nests-within : goal.decreases-nests-within
+abbrev pub decreases-nests-within : goal.decreases-nests_within
 decreases-nests-within l = l.levels
 
 abbrev pub invariant-loop-component : goal.invariant-loop-component

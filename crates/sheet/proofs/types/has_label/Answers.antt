@@ -10,7 +10,7 @@ returns-then-same-label c =
 pub loop-entry-preserved : goal.loop-entry-preserved
 loop-entry-preserved c =
     unlabelled_more c.args.all.now c.args.label.now c.loop-entry.entry-index _ c.loop-entry-test.true c.loop-entry.invariant
-    (refuted c.if-same-label.ensures)
+    (refuted c.if-same_label.ensures)
 
 pub returns : goal.returns
 returns c =

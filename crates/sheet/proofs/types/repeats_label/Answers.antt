@@ -8,7 +8,7 @@ returns-then-has-label c =
 
 pub loop-i-preserved : goal.loop-i-preserved
 loop-i-preserved c =
-    unrepeated_more c.args.all.now c.loop-i.i _ c.loop-i.invariant (refuted c.if-has-label.ensures)
+    unrepeated_more c.args.all.now c.loop-i.i _ c.loop-i.invariant (refuted c.if-has_label.ensures)
 
 pub returns : goal.returns
 returns c =

@@ -12,14 +12,14 @@ returns-then-is-some c =
 pub returns-then-misplaces : goal.returns-then-misplaces
 returns-then-misplaces c =
     let s = c.args.self.now in
-    let w = none_of s.wrong c.if-is-some.ensures in
+    let w = none_of s.wrong c.if-is_some.ensures in
     let m = ap (misplaced s.census) (sym c.class-kind.ensures) ∙ sym c.if-misplaces.ensures in
     record { place = refl; seen = λ rs h. seen_found rs c.args.given s h w m }
 
 pub returns : goal.returns
 returns c =
     let s = c.args.self.now in
-    let w = none_of s.wrong c.if-is-some.ensures in
+    let w = none_of s.wrong c.if-is_some.ensures in
     let k = c.class-kind.ensures in
     let m = ap (misplaced s.census) (sym k) ∙ sym c.if-misplaces.ensures in
     record {

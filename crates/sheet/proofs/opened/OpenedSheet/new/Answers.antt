@@ -2,4 +2,4 @@ use Rattle.sheet.proofs.Stops.{one_stop_sound}
 use Rattle.sheet.proofs.opened.OpenedSheet.new.Goals as goal
 
 pub seal-sheet-requires : goal.seal-sheet-requires
-seal-sheet-requires g c = one_stop_sound c.one-stop.result c.one-stop.ensures _
+seal-sheet-requires g c = one_stop_sound c.one_stop.result c.one_stop.ensures _
