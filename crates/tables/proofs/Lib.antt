@@ -1,2 +1,3 @@
+pub mod Equal
 pub mod Tabled
 pub mod Decoded

@@ -5,15 +5,15 @@ use Rattle.effects.specs.Rows.{blank}
 use Rattle.effects.proofs.Sheets.{amounts_same}
 use Rattle.effects.proofs.amount_of.Goals as goal
 
-pub amount-at-amount-requires : goal.amount-at-amount-requires
-amount-at-amount-requires g c =
-    let few = c.as-slice.ensures.within in
+pub amount_at-amount-requires : goal.amount_at-amount-requires
+amount_at-amount-requires g c =
+    let few = c.as_slice.ensures.within in
     record {
       sizes = (omega (arith, few, c.if-rows-lt-ENOUGH.false, c.prepare.auto.rows), few);
       meant = (
         _,
         amounts_same _ _ _ _ _ _ _ (ap g.C.Counting.operations c.counting.ensures)
-            (c.as-slice.ensures.value ∙ ap (λ (x : Tables). elements x.nodes) c.tables-tables.ensures.value) (c.prepare.ensures c.args.label),
+            (c.as_slice.ensures.value ∙ ap (λ (x : Tables). elements x.nodes) c.tables-tables.ensures.value) (c.prepare.ensures c.args.label),
       );
     }
 
@@ -23,8 +23,8 @@ returns g c =
     record {
       told = (
         omega (arith, c.if-rows-lt-ENOUGH.false),
-        c.amount-at-amount.ensures _ (amounts_same _ _ _ _ _ _ _ (ap g.C.Counting.operations c.counting.ensures)
-            (c.as-slice.ensures.value ∙ ap (λ (x : Tables). elements x.nodes) c.tables-tables.ensures.value) (c.prepare.ensures c.args.label)),
+        c.amount_at-amount.ensures _ (amounts_same _ _ _ _ _ _ _ (ap g.C.Counting.operations c.counting.ensures)
+            (c.as_slice.ensures.value ∙ ap (λ (x : Tables). elements x.nodes) c.tables-tables.ensures.value) (c.prepare.ensures c.args.label)),
       );
-      zero = c.clear-rows-2.ensures ∙ ap (λ k. replicate k blank) same;
+      zero = c.clear_rows-2.ensures ∙ ap (λ k. replicate k blank) same;
     }

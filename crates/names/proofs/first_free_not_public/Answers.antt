@@ -9,12 +9,12 @@ use Rattle.meaning.specs.Types.{types_of}
 use Rattle.names.proofs.Charting.{charts}
 use Rattle.names.proofs.first_free_not_public.Goals as goal
 
-pub find-free-not-public-requires : goal.find-free-not-public-requires
-find-free-not-public-requires g c =
-    charts _ c.tables-tables.result c.tables-tables.ensures.sound c.as-slice.result.now c.as-slice.ensures.value c.new-chart.result
+pub find_free_not_public-requires : goal.find_free_not_public-requires
+find_free_not_public-requires g c =
+    charts _ c.tables-tables.result c.tables-tables.ensures.sound c.as_slice.result.now c.as_slice.ensures.value c.new-chart.result
     c.new-chart.ensures.binders c.new-chart.ensures.parents c.new-chart.ensures.sizes
 
 pub returns : goal.returns
 returns g c =
-    let Found = λ (t : Tables). FirstFailure (λ x. in_scope (free t) x ≡ true → types_of t x ≡ public) (length (elements t.names)) c.find-free-not-public.result in
-    subst Found c.tables-tables.ensures.value c.find-free-not-public.ensures
+    let Found = λ (t : Tables). FirstFailure (λ x. in_scope (free t) x ≡ true → types_of t x ≡ public) (length (elements t.names)) c.find_free_not_public.result in
+    subst Found c.tables-tables.ensures.value c.find_free_not_public.ensures

@@ -8,12 +8,12 @@ use Rattle.meaning.specs.Types.{types_of}
 use Rattle.names.proofs.Charting.{charts}
 use Rattle.names.proofs.first_ill_formed.Goals as goal
 
-pub find-ill-formed-requires : goal.find-ill-formed-requires
-find-ill-formed-requires g c =
-    charts _ c.tables-tables.result c.tables-tables.ensures.sound c.as-slice.result.now c.as-slice.ensures.value c.new-chart.result
+pub find_ill_formed-requires : goal.find_ill_formed-requires
+find_ill_formed-requires g c =
+    charts _ c.tables-tables.result c.tables-tables.ensures.sound c.as_slice.result.now c.as_slice.ensures.value c.new-chart.result
     c.new-chart.ensures.binders c.new-chart.ensures.parents c.new-chart.ensures.sizes
 
 pub returns : goal.returns
 returns g c =
-    let Found = λ (t : Tables). FirstFailure (λ x. WellFormed (scope_for t x) (types_of t x)) (length (elements t.names)) c.find-ill-formed.result in
-    subst Found c.tables-tables.ensures.value c.find-ill-formed.ensures
+    let Found = λ (t : Tables). FirstFailure (λ x. WellFormed (scope_for t x) (types_of t x)) (length (elements t.names)) c.find_ill_formed.result in
+    subst Found c.tables-tables.ensures.value c.find_ill_formed.ensures

@@ -11,8 +11,8 @@ loop-n-init g c A a m l =
     get_or_past c.args.amounts.now m 0 (omega (arith, c.requires.sizes.1))
     ∙ sym (amount_past K c.args.nodes.now c.args.rows.now c.args.label.now A a m l)
 
-pub node-amount-amount-requires : goal.node-amount-amount-requires
-node-amount-amount-requires g c =
+pub node_amount-amount-requires : goal.node_amount-amount-requires
+node_amount-amount-requires g c =
     let K = g.C.Counting.operations c.args.counting.now in
     let nodes = c.args.nodes.now in
     let rows = c.args.rows.now in
@@ -39,5 +39,5 @@ loop-n-preserved g c A a =
     let within : n < length nodes = omega arith in
     let size : length c.loop-n.amounts ≡ length nodes = omega (arith, c.requires.sizes.1, c.loop-n.auto.amounts) in
     let after : (m : ℕ) → n < m → get_or c.loop-n.amounts m 0 ≡ A m = λ m l. c.loop-n.invariant A a m (omega arith) in
-    filled_more A c.loop-n.amounts n c.node-amount-amount.result (omega arith) after
-    (c.node-amount-amount.ensures ∙ amount_from K nodes rows L A a c.loop-n.amounts n within after)
+    filled_more A c.loop-n.amounts n c.node_amount-amount.result (omega arith) after
+    (c.node_amount-amount.ensures ∙ amount_from K nodes rows L A a c.loop-n.amounts n within after)

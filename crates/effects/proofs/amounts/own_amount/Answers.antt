@@ -7,8 +7,8 @@ use Rattle.effects.proofs.amounts.own_amount.Goals as goal
 pub loop-j-init : goal.loop-j-init
 loop-j-init g c = last_none (g.C.Counting.operations c.args.counting.now) (gives c.args.label.now) c.args.rows.now
 
-pub join-within-sum-requires : goal.join-within-sum-requires
-join-within-sum-requires g c =
+pub join_within-sum-requires : goal.join_within-sum-requires
+join_within-sum-requires g c =
     let K = g.C.Counting.operations c.args.counting.now in
     let W = g.met.C.Counting.lawful c.args.counting.now in
     let f = gives c.args.label.now in
@@ -19,5 +19,5 @@ join-within-sum-requires g c =
 pub loop-j-preserved : goal.loop-j-preserved
 loop-j-preserved g c =
     let K = g.C.Counting.operations c.args.counting.now in
-    c.join-within-sum.ensures
+    c.join_within-sum.ensures
     ∙ last_more K (gives c.args.label.now) c.args.rows.now c.loop-j.j c.amount_for.result c.loop-j.sum _ (λ e. omega arith) c.loop-j.auto.j c.amount_for.ensures c.loop-j.invariant

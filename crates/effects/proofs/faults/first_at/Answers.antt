@@ -11,4 +11,4 @@ pub loop-n-preserved : goal.loop-n-preserved
 loop-n-preserved g c =
     let K = g.C.Counting.operations c.args.counting.now in
     good_more (λ n. bad K (node_at c.args.nodes.now n) c.args.label.now (get_or c.args.amounts.now n 0)) (c.loop-n.n - 1)
-    (sym c.is-bad.ensures ∙ c.if-is-bad.false) (λ m l. c.loop-n.invariant m (omega arith))
+    (sym c.is_bad.ensures ∙ c.if-is_bad.false) (λ m l. c.loop-n.invariant m (omega arith))

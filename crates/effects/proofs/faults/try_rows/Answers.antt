@@ -9,8 +9,8 @@ loop-i-preserved g c A a =
     let K = g.C.Counting.operations c.args.counting.now in
     let nodes = c.args.nodes.now in
     let rows = c.args.rows.now in
-    subst (λ (S : List (Label ℕ)). FirstIn K nodes A S c.try-row-best.result) (tried_more nodes rows c.loop-i.i)
-    (c.try-row-best.ensures A a (tried nodes rows c.loop-i.i) (c.loop-i.invariant A a))
+    subst (λ (S : List (Label ℕ)). FirstIn K nodes A S c.try_row-best.result) (tried_more nodes rows c.loop-i.i)
+    (c.try_row-best.ensures A a (tried nodes rows c.loop-i.i) (c.loop-i.invariant A a))
 
 pub returns : goal.returns
 returns g c A a =

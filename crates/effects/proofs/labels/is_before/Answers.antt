@@ -4,11 +4,11 @@ use Rattle.sheet.proofs.Nesting.{nth_within}
 use Rattle.effects.proofs.Orders.{items_few, before_longer, before_differ, before_alike, before_ended}
 use Rattle.effects.proofs.labels.is_before.Goals as goal
 
-pub returns-in-default-get : goal.returns-in-default-get
-returns-in-default-get c =
+pub returns-in_default-get : goal.returns-in_default-get
+returns-in_default-get c =
     let xs = list c.args.left.now.items in
     let ys = list c.args.right.now.items in
-    sym (c.loop-a.invariant.1 ∙ before_longer xs ys c.loop-a.place c.in-Some.a c.in-Some.ensures c.in-default-get.ensures)
+    sym (c.loop-a.invariant.1 ∙ before_longer xs ys c.loop-a.place c.in-Some.a c.in-Some.ensures c.in_default-get.ensures)
 
 pub returns-then-a-b : goal.returns-then-a-b
 returns-then-a-b c =
@@ -29,4 +29,4 @@ pub returns : goal.returns
 returns c =
     let xs = list c.args.left.now.items in
     let ys = list c.args.right.now.items in
-    sym (c.loop-a.invariant.1 ∙ before_ended xs ys c.loop-a.place c.in-default.ensures)
+    sym (c.loop-a.invariant.1 ∙ before_ended xs ys c.loop-a.place c.in_default.ensures)

@@ -7,8 +7,8 @@ pub loop-i-preserved : goal.loop-i-preserved
 loop-i-preserved c =
     let i = c.loop-i.i in
     let rows = c.loop-i.rows in
-    take_more_set rows i c.blank-row.result (omega arith)
-    ∙ ap (λ x. take i rows ++ x ∷ []) c.blank-row.ensures
+    take_more_set rows i c.blank_row.result (omega arith)
+    ∙ ap (λ x. take i rows ++ x ∷ []) c.blank_row.ensures
     ∙ ap (λ l. l ++ blank ∷ []) c.loop-i.invariant
     ∙ replicate_more i blank
 

@@ -9,5 +9,5 @@ pub loop-i-preserved : goal.loop-i-preserved
 loop-i-preserved c =
     let i = c.loop-i.i in
     let f : ℕ → Row = λ k. get_or (rows_of c.args.full c.args.types.now c.args.owners.now (node_at c.args.nodes.now (k / 8))) (k % 8) blank in
-    subst (λ (x : Row). (k : ℕ) → k < i + 1 → get_or (set c.loop-i.rows i x) k blank ≡ f k) (sym c.node-row.ensures)
+    subst (λ (x : Row). (k : ℕ) → k < i + 1 → get_or (set c.loop-i.rows i x) k blank ≡ f k) (sym c.node_row.ensures)
     (fill_by_more f c.loop-i.rows i blank (omega arith) c.loop-i.invariant)

@@ -10,14 +10,14 @@ pub returns-then-rows-lt-ROWS : goal.returns-then-rows-lt-ROWS
 returns-then-rows-lt-ROWS g c = record {
   first = few_first _ _ _ c.if-rows-lt-ROWS.true;
   accepted = λ e. absurd (false≢true e);
-  zero = c.clear-rows.ensures;
+  zero = c.clear_rows.ensures;
 }
 
 pub returns-in-Some : goal.returns-in-Some
 returns-in-Some g c = record {
   first = types_first _ _ _ c.in-Some.fault c.if-rows-lt-ROWS.false (c.in-Some.ensures.first _);
   accepted = λ e. absurd (false≢true e);
-  zero = c.clear-rows-in-Some.ensures;
+  zero = c.clear_rows-in-Some.ensures;
 }
 
 pub returns : goal.returns
@@ -26,11 +26,11 @@ returns g c =
     let K = g.C.Counting.operations (g.C.Sheets.own s) in
     let t = g.C.Sheets.held s in
     let rows = length c.args.rows.now in
-    let typed = c.in-default.ensures in
-    let all = effects_first K t rows (fault_of c.judge-effects.result) (typed.first rows) c.judge-effects.ensures.first in
+    let typed = c.in_default.ensures in
+    let all = effects_first K t rows (fault_of c.judge_effects.result) (typed.first rows) c.judge_effects.ensures.first in
     record {
       first = all;
       accepted = λ e. unfaulted_accepted K t (g.met.C.Sheets.sound s) (g.met.C.Counting.lawful (g.C.Sheets.own s)) rows (typed.typed refl)
-          (subst (λ (o : Option Fault). FirstTold (Faulty K t rows) o) (ok_none c.judge-effects.result e) all);
-      zero = c.judge-effects.ensures.zero;
+          (subst (λ (o : Option Fault). FirstTold (Faulty K t rows) o) (ok_none c.judge_effects.result e) all);
+      zero = c.judge_effects.ensures.zero;
     }

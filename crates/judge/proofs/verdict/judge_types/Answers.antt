@@ -8,26 +8,26 @@ returns-in-Some g c = record {
   typed = λ e. let z : ◌≡◌ {A = ℕ} 0 1 = cc in absurd (omega arith);
 }
 
-pub returns-in-Some-first-ill-formed : goal.returns-in-Some-first-ill-formed
-returns-in-Some-first-ill-formed g c = record {
-  first = at_formed _ _ c.in-default.ensures c.in-Some-first-ill-formed.bound c.in-Some-first-ill-formed.ensures;
+pub returns-in-Some-first_ill_formed : goal.returns-in-Some-first_ill_formed
+returns-in-Some-first_ill_formed g c = record {
+  first = at_formed _ _ c.in_default.ensures c.in-Some-first_ill_formed.bound c.in-Some-first_ill_formed.ensures;
   typed = λ e. let z : ◌≡◌ {A = ℕ} 0 1 = cc in absurd (omega arith);
 }
 
-pub returns-in-Some-first-bad-channel : goal.returns-in-Some-first-bad-channel
-returns-in-Some-first-bad-channel g c = record {
-  first = at_counts _ _ c.in-default.ensures c.in-default-first-ill-formed.ensures c.in-Some-first-bad-channel.user c.in-Some-first-bad-channel.ensures;
+pub returns-in-Some-first_bad_channel : goal.returns-in-Some-first_bad_channel
+returns-in-Some-first_bad_channel g c = record {
+  first = at_counts _ _ c.in_default.ensures c.in_default-first_ill_formed.ensures c.in-Some-first_bad_channel.user c.in-Some-first_bad_channel.ensures;
   typed = λ e. let z : ◌≡◌ {A = ℕ} 0 1 = cc in absurd (omega arith);
 }
 
-pub returns-in-Some-first-wrong-type : goal.returns-in-Some-first-wrong-type
-returns-in-Some-first-wrong-type g c = record {
-  first = at_types _ _ c.in-default.ensures c.in-default-first-ill-formed.ensures c.in-default-first-bad-channel.ensures c.in-Some-first-wrong-type.node c.in-Some-first-wrong-type.ensures;
+pub returns-in-Some-first_wrong_type : goal.returns-in-Some-first_wrong_type
+returns-in-Some-first_wrong_type g c = record {
+  first = at_types _ _ c.in_default.ensures c.in_default-first_ill_formed.ensures c.in_default-first_bad_channel.ensures c.in-Some-first_wrong_type.node c.in-Some-first_wrong_type.ensures;
   typed = λ e. let z : ◌≡◌ {A = ℕ} 0 1 = cc in absurd (omega arith);
 }
 
 pub returns-in-None : goal.returns-in-None
 returns-in-None g c = record {
-  first = no_types _ _ c.in-default.ensures c.in-default-first-ill-formed.ensures c.in-default-first-bad-channel.ensures c.in-None.ensures;
-  typed = λ e. typed _ _ c.in-default.ensures c.in-default-first-ill-formed.ensures c.in-default-first-bad-channel.ensures c.in-None.ensures;
+  first = no_types _ _ c.in_default.ensures c.in_default-first_ill_formed.ensures c.in_default-first_bad_channel.ensures c.in-None.ensures;
+  typed = λ e. typed _ _ c.in_default.ensures c.in_default-first_ill_formed.ensures c.in_default-first_bad_channel.ensures c.in-None.ensures;
 }

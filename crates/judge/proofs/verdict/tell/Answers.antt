@@ -13,13 +13,13 @@ returns g c =
     let t = g.C.Sheets.held i in
     let rows = length c.args.rows.now in
     let L = names_label c.args.label in
-    let r = c.amount-of.result in
+    let r = c.amount_of.result in
     let told = subst (λ (k : Operations). Told k t rows c.args.node L r) (ap g.C.Counting.operations c.opened.ensures.own)
-    (subst (λ (u : Tables). Told (g.C.Counting.operations (g.C.Sheets.own c.opened.result.sheet)) u rows c.args.node L r) c.opened.ensures.held c.amount-of.ensures.told) in
+    (subst (λ (u : Tables). Told (g.C.Counting.operations (g.C.Sheets.own c.opened.result.sheet)) u rows c.args.node L r) c.opened.ensures.held c.amount_of.ensures.told) in
     let sound = g.met.C.Sheets.sound i in
     record {
       told = told;
       least = told_least K t sound (g.met.C.Counting.lawful (g.C.Sheets.own i)) (g.met.C.Passing.accepted s) rows c.args.node L r told;
       past = told_past K t sound rows c.args.node L r told;
-      zero = c.amount-of.ensures.zero;
+      zero = c.amount_of.ensures.zero;
     }

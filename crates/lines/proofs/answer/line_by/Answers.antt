@@ -14,8 +14,8 @@ returns-in-Ok g c =
     let held = g.C.Sheets.held c.open.new.place.sheet in
     let means = subst (λ k. Means (basis_of (C.tag k) (C.operations k)) bytes (Ok held)) c.new-place.ensures.own c.in-Ok.ensures.meaning in
     let count = c.len.ensures.value ∙ ap (λ (t : Tables). length (elements t.nodes)) c.tables.ensures.value in
-    IfOk-weaker c.opened-line.result (λ s. string_bytes s ≡ opened c.len.result) (λ s. By (basis_of (C.tag c.args.counting) (C.operations c.args.counting)) bytes (string_bytes s))
-    (λ s e. (Ok held, means, e ∙ ap opened count)) c.opened-line.ensures
+    IfOk-weaker c.opened_line.result (λ s. string_bytes s ≡ opened c.len.result) (λ s. By (basis_of (C.tag c.args.counting) (C.operations c.args.counting)) bytes (string_bytes s))
+    (λ s e. (Ok held, means, e ∙ ap opened count)) c.opened_line.ensures
 
 pub returns : goal.returns
 returns g c =
@@ -23,5 +23,5 @@ returns g c =
     let bytes = c.args.bytes.now in
     let fault = c.in-Err.fault in
     let means = subst (λ k. Means (basis_of (C.tag k) (C.operations k)) bytes (Err fault)) c.new-place.ensures.own c.in-Err.ensures.meaning in
-    IfOk-weaker c.refused-line.result (λ s. string_bytes s ≡ refused fault) (λ s. By (basis_of (C.tag c.args.counting) (C.operations c.args.counting)) bytes (string_bytes s))
-    (λ s e. (Err fault, means, e)) c.refused-line.ensures
+    IfOk-weaker c.refused_line.result (λ s. string_bytes s ≡ refused fault) (λ s. By (basis_of (C.tag c.args.counting) (C.operations c.args.counting)) bytes (string_bytes s))
+    (λ s e. (Err fault, means, e)) c.refused_line.ensures

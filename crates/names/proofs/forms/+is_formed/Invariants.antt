@@ -9,8 +9,8 @@ use Rattle.names.specs.Marks.{marked, outer}
 use Rattle.names.proofs.Forming.{PartsFit}
 use Rattle.names.proofs.forms.+is_formed.Given as goal
 
-abbrev pub decreases-is-formed : goal.decreases-is-formed
-decreases-is-formed l = l.levels
+abbrev pub decreases-is_formed : goal.decreases-is_formed
+decreases-is_formed l = l.levels
 
 -- the entries fit, and the components so far
 abbrev pub invariant-loop-component : goal.invariant-loop-component

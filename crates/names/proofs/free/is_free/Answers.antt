@@ -5,9 +5,9 @@ use Rattle.names.proofs.free.is_free.Goals as goal
 pub returns-then-x-len : goal.returns-then-x-len
 returns-then-x-len c =
     let l : c.args.x < 64 = omega (arith, c.if-x-len.true, c.len.ensures.within) in
-    free_then c.args.tables.now c.args.x c.len.result c.binder.result c.is-none.result c.len.ensures.value c.if-x-len.true
+    free_then c.args.tables.now c.args.x c.len.result c.binder.result c.is_none.result c.len.ensures.value c.if-x-len.true
     (c.binder.ensures ∙ c.requires.binders c.args.x l)
-    c.is-none.ensures
+    c.is_none.ensures
 
 pub returns-else-x-len : goal.returns-else-x-len
 returns-else-x-len c = free_else c.args.tables.now c.args.x c.len.result c.len.ensures.value c.if-x-len.false

@@ -11,7 +11,7 @@ returns-in-Some c =
     let types = c.args.types.now in
     let finds = c.in-Some.ensures.lookup in
     let e = get_or_read_under types c.args.at _ c.in-Some.found.now Pure finds.1 (ltb-true _ _ (sym finds.0)) refl in
-    public_form (type_within types 3) _ c.is-public.result (subst (λ x. Decides c.is-public.result (x ≡ Public)) e c.is-public.ensures)
+    public_form (type_within types 3) _ c.is_public.result (subst (λ x. Decides c.is_public.result (x ≡ Public)) e c.is_public.ensures)
 
 pub returns-in-None : goal.returns-in-None
 returns-in-None c =

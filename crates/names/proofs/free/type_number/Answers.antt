@@ -9,4 +9,4 @@ returns-in-None c =
     let t = c.args.tables.now in
     let past = ltb-false _ _ (sym c.in-None.ensures.finds.0) in
     c.len.ensures.value
-    ∙ sym (ap (λ xs. get_or xs c.args.x (length (elements t.types))) (sym c.as-slice.ensures.value) ∙ get_or_past c.as-slice.result.now c.args.x (length (elements t.types)) past)
+    ∙ sym (ap (λ xs. get_or xs c.args.x (length (elements t.types))) (sym c.as_slice.ensures.value) ∙ get_or_past c.as_slice.result.now c.args.x (length (elements t.types)) past)

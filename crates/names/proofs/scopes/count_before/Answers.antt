@@ -21,4 +21,4 @@ pub loop-name-smaller : goal.loop-name-smaller
 loop-name-smaller c = omega (arith, nth_within (parts c.args.names.now) c.loop-name.place c.in-Some.name c.in-Some.ensures)
 
 pub returns : goal.returns
-returns c = before_end c.args.x (parts c.args.names.now) c.loop-name.place c.in-default.ensures c.loop-name.invariant.1
+returns c = before_end c.args.x (parts c.args.names.now) c.loop-name.place c.in_default.ensures c.loop-name.invariant.1

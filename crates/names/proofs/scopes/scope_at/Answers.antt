@@ -8,7 +8,7 @@ use Rattle.names.proofs.Climbing.{climb_start, climb_on, climb_end, whole}
 use Rattle.names.proofs.scopes.scope_at.Goals as goal
 
 pub loop-parent-init : goal.loop-parent-init
-loop-parent-init c = climb_start c.args.tables.now c.args.n c.free-names-marks.result c.requires.within c.free-names-marks.ensures
+loop-parent-init c = climb_start c.args.tables.now c.args.n c.free_names-marks.result c.requires.within c.free_names-marks.ensures
 
 pub loop-parent-smaller : goal.loop-parent-smaller
 loop-parent-smaller c =
@@ -21,8 +21,8 @@ loop-parent-preserved c =
     let at = c.loop-parent.from in
     let m = c.in-Some.parent in
     let marks = c.loop-parent.marks in
-    let names = whole (parts c.bound-at-names.result) (binds (node_at (elements t.nodes) m)) c.count.result c.count.ensures
-    (c.bound-at-names.ensures ∙ ap (λ nodes. binds (node_at nodes m)) c.as-slice.ensures.value) in
+    let names = whole (parts c.bound_at-names.result) (binds (node_at (elements t.nodes) m)) c.count.result c.count.ensures
+    (c.bound_at-names.ensures ∙ ap (λ nodes. binds (node_at nodes m)) c.as_slice.ensures.value) in
     climb_on t c.args.chart.now c.requires.charted c.args.n at marks c.loop-parent.invariant m c.mark.new.marks
     (sym (c.requires.charted.parents at c.loop-parent.invariant.within) ∙ sym c.in-Some.ensures)
     (c.mark.auto.marks ∙ c.loop-parent.invariant.size)
@@ -32,4 +32,4 @@ pub returns : goal.returns
 returns c =
     let at = c.loop-parent.from in
     climb_end c.args.tables.now c.args.chart.now c.requires.charted c.args.n at c.loop-parent.marks c.loop-parent.invariant
-    (sym (c.requires.charted.parents at c.loop-parent.invariant.within) ∙ sym c.in-default.ensures)
+    (sym (c.requires.charted.parents at c.loop-parent.invariant.within) ∙ sym c.in_default.ensures)

@@ -8,8 +8,8 @@ use Rattle.names.proofs.Charting.{binder_within}
 use Rattle.names.proofs.Climbing.{scope_unbound, scope_bound}
 use Rattle.names.proofs.scopes.scope_for.Goals as goal
 
-pub scope-at-marks-requires : goal.scope-at-marks-requires
-scope-at-marks-requires c =
+pub scope_at-marks-requires : goal.scope_at-marks-requires
+scope_at-marks-requires c =
     let x = c.args.x in
     let e = sym (c.requires.charted.binders x c.requires.within) ∙ sym c.in-Some.ensures in
     record {
@@ -22,16 +22,16 @@ returns c =
     let t = c.args.tables.now in
     let x = c.args.x in
     let b = c.in-Some.binder in
-    let marks = c.scope-at-marks.result in
-    let names = c.count-before.ensures ∙ ap (earlier x) (c.bound-at-names.ensures ∙ ap (λ nodes. binds (node_at nodes b)) c.as-slice.ensures.value) in
+    let marks = c.scope_at-marks.result in
+    let names = c.count_before.ensures ∙ ap (earlier x) (c.bound_at-names.ensures ∙ ap (λ nodes. binds (node_at nodes b)) c.as_slice.ensures.value) in
     scope_bound t x b marks c.mark.new.marks
     (sym (c.requires.charted.binders x c.requires.within) ∙ sym c.in-Some.ensures)
-    c.scope-at-marks.ensures
-    (c.mark.auto.marks ∙ c.scope-at-marks.ensures.size)
-    (λ y l. c.mark.ensures y (omega (arith, c.scope-at-marks.ensures.size)) ∙ ap (λ zs. member y zs || marked marks y) names)
+    c.scope_at-marks.ensures
+    (c.mark.auto.marks ∙ c.scope_at-marks.ensures.size)
+    (λ y l. c.mark.ensures y (omega (arith, c.scope_at-marks.ensures.size)) ∙ ap (λ zs. member y zs || marked marks y) names)
 
-pub returns-in-default : goal.returns-in-default
-returns-in-default c =
-    scope_unbound c.args.tables.now c.args.x c.free-names.result
-    (sym (c.requires.charted.binders c.args.x c.requires.within) ∙ sym c.in-default.ensures)
-    c.free-names.ensures
+pub returns-in_default : goal.returns-in_default
+returns-in_default c =
+    scope_unbound c.args.tables.now c.args.x c.free_names.result
+    (sym (c.requires.charted.binders c.args.x c.requires.within) ∙ sym c.in_default.ensures)
+    c.free_names.ensures

@@ -14,82 +14,82 @@ use Rattle.sheet.proofs.Checking.{limited, nodes_fit, first_tree, first_scope, f
 use Rattle.sheet.proofs.Scanning.{is_false}
 use Rattle.sheet.proofs.check.check.Goals as goal
 
-pub records-of-types-requires : goal.records-of-types-requires
-records-of-types-requires c = c.as-slice-types.ensures.within
+pub records_of_types-requires : goal.records_of_types-requires
+records_of_types-requires c = c.as_slice-types.ensures.within
 
-pub first-misgrown-requires : goal.first-misgrown-requires
-first-misgrown-requires c = c.as-slice-nodes.ensures.within
+pub first_misgrown-requires : goal.first_misgrown-requires
+first_misgrown-requires c = c.as_slice-nodes.ensures.within
 
 pub returns-in-Some : goal.returns-in-Some
 returns-in-Some c =
     let t = c.args.tables.now in
     let n = c.in-Some.node in
-    let records = c.records-of-types.ensures.value ∙ ap (λ xs. length (flat_map type_records xs)) c.as-slice-types.ensures.value in
-    let place : 1 + c.records-of-types.result + c.len.result + n ≡ node_place t n = omega (arith, records, c.len.ensures.value) in
-    let low = subst (λ xs. Lowest (λ k. misgrown xs k ≡ true) (length xs) (Some n)) c.as-slice-nodes.ensures.value c.in-Some.ensures in
+    let records = c.records_of_types.ensures.value ∙ ap (λ xs. length (flat_map type_records xs)) c.as_slice-types.ensures.value in
+    let place : 1 + c.records_of_types.result + c.len.result + n ≡ node_place t n = omega (arith, records, c.len.ensures.value) in
+    let low = subst (λ xs. Lowest (λ k. misgrown xs k ≡ true) (length xs) (Some n)) c.as_slice-nodes.ensures.value c.in-Some.ensures in
     record {
       first = subst (λ p. First (Crooked t) (Some (NotATree p))) (sym place) (first_tree t n low);
-      limits = limited t _ _ _ c.as-slice-types.ensures.value c.as-slice-nodes.ensures.value c.len.ensures.value c.as-slice-types.ensures.within c.as-slice-nodes.ensures.within c.len.ensures.within c.records-of-types.ensures.each;
+      limits = limited t _ _ _ c.as_slice-types.ensures.value c.as_slice-nodes.ensures.value c.len.ensures.value c.as_slice-types.ensures.within c.as_slice-nodes.ensures.within c.len.ensures.within c.records_of_types.ensures.each;
     }
 
-pub first-misnamed-requires : goal.first-misnamed-requires
-first-misnamed-requires c =
+pub first_misnamed-requires : goal.first_misnamed-requires
+first_misnamed-requires c =
     let t = c.args.tables.now in
     let fits = nodes_fit c.requires.0 t c.requires.1 in
     record {
-      few = c.as-slice-nodes.ensures.within;
-      tree = λ n l. is_false (misgrown c.as-slice-nodes.result.now n) (c.in-default.ensures n l);
+      few = c.as_slice-nodes.ensures.within;
+      tree = λ n l. is_false (misgrown c.as_slice-nodes.result.now n) (c.in_default.ensures n l);
       ranged = (
         length (elements t.names),
         omega (arith, c.len.ensures.value, c.len.ensures.within),
-        subst (λ xs. all (node_fits (length (elements t.names)) (length xs)) xs ≡ true) (sym c.as-slice-nodes.ensures.value) fits,
+        subst (λ xs. all (node_fits (length (elements t.names)) (length xs)) xs ≡ true) (sym c.as_slice-nodes.ensures.value) fits,
       );
     }
 
-pub returns-in-Some-first-misnamed : goal.returns-in-Some-first-misnamed
-returns-in-Some-first-misnamed c =
+pub returns-in-Some-first_misnamed : goal.returns-in-Some-first_misnamed
+returns-in-Some-first_misnamed c =
     let t = c.args.tables.now in
-    let n = c.in-Some-first-misnamed.node in
-    let e = c.as-slice-nodes.ensures.value in
-    let records = c.records-of-types.ensures.value ∙ ap (λ xs. length (flat_map type_records xs)) c.as-slice-types.ensures.value in
-    let place : 1 + c.records-of-types.result + c.len.result + n ≡ node_place t n = omega (arith, records, c.len.ensures.value) in
-    let tree = subst (λ xs. Lowest (λ k. misgrown xs k ≡ true) (length xs) None) e c.in-default.ensures in
-    let low = subst (λ xs. Lowest (Misnamed xs) (length xs) (Some n)) e c.in-Some-first-misnamed.ensures in
+    let n = c.in-Some-first_misnamed.node in
+    let e = c.as_slice-nodes.ensures.value in
+    let records = c.records_of_types.ensures.value ∙ ap (λ xs. length (flat_map type_records xs)) c.as_slice-types.ensures.value in
+    let place : 1 + c.records_of_types.result + c.len.result + n ≡ node_place t n = omega (arith, records, c.len.ensures.value) in
+    let tree = subst (λ xs. Lowest (λ k. misgrown xs k ≡ true) (length xs) None) e c.in_default.ensures in
+    let low = subst (λ xs. Lowest (Misnamed xs) (length xs) (Some n)) e c.in-Some-first_misnamed.ensures in
     record {
       first = subst (λ p. First (Crooked t) (Some (OutOfScope p))) (sym place) (first_scope t tree n low);
-      limits = limited t _ _ _ c.as-slice-types.ensures.value c.as-slice-nodes.ensures.value c.len.ensures.value c.as-slice-types.ensures.within c.as-slice-nodes.ensures.within c.len.ensures.within c.records-of-types.ensures.each;
+      limits = limited t _ _ _ c.as_slice-types.ensures.value c.as_slice-nodes.ensures.value c.len.ensures.value c.as_slice-types.ensures.within c.as_slice-nodes.ensures.within c.len.ensures.within c.records_of_types.ensures.each;
     }
 
-pub records-of-types-requires-in-Some-first-misformed :
-    goal.records-of-types-requires-in-Some-first-misformed
-records-of-types-requires-in-Some-first-misformed c =
-    let i = c.in-Some-first-misformed.at in
-    omega (arith, length-take (i - 0) c.as-slice-types.result.now, c.as-slice-types.ensures.within)
+pub records_of_types-requires-in-Some-first_misformed :
+    goal.records_of_types-requires-in-Some-first_misformed
+records_of_types-requires-in-Some-first_misformed c =
+    let i = c.in-Some-first_misformed.at in
+    omega (arith, length-take (i - 0) c.as_slice-types.result.now, c.as_slice-types.ensures.within)
 
-pub returns-in-Some-first-misformed : goal.returns-in-Some-first-misformed
-returns-in-Some-first-misformed c =
+pub returns-in-Some-first_misformed : goal.returns-in-Some-first_misformed
+returns-in-Some-first_misformed c =
     let t = c.args.tables.now in
-    let i = c.in-Some-first-misformed.at in
-    let e = c.as-slice-nodes.ensures.value in
+    let i = c.in-Some-first_misformed.at in
+    let e = c.as_slice-nodes.ensures.value in
     let whole : i - 0 ≡ i = omega arith in
-    let records = c.records-of-types-in-Some-first-misformed.ensures.value ∙ ap (λ k. length (flat_map type_records (take k c.as-slice-types.result.now))) whole ∙ ap (λ xs. length (flat_map type_records (take i xs))) c.as-slice-types.ensures.value in
-    let place : 1 + c.records-of-types-in-Some-first-misformed.result ≡ type_place t i = omega (arith, records) in
-    let tree = subst (λ xs. Lowest (λ k. misgrown xs k ≡ true) (length xs) None) e c.in-default.ensures in
-    let scope = subst (λ xs. Lowest (Misnamed xs) (length xs) None) e c.in-default-first-misnamed.ensures in
-    let low = subst (λ xs. Lowest (Misformed xs) (length xs) (Some i)) c.as-slice-types.ensures.value c.in-Some-first-misformed.ensures in
+    let records = c.records_of_types-in-Some-first_misformed.ensures.value ∙ ap (λ k. length (flat_map type_records (take k c.as_slice-types.result.now))) whole ∙ ap (λ xs. length (flat_map type_records (take i xs))) c.as_slice-types.ensures.value in
+    let place : 1 + c.records_of_types-in-Some-first_misformed.result ≡ type_place t i = omega (arith, records) in
+    let tree = subst (λ xs. Lowest (λ k. misgrown xs k ≡ true) (length xs) None) e c.in_default.ensures in
+    let scope = subst (λ xs. Lowest (Misnamed xs) (length xs) None) e c.in_default-first_misnamed.ensures in
+    let low = subst (λ xs. Lowest (Misformed xs) (length xs) (Some i)) c.as_slice-types.ensures.value c.in-Some-first_misformed.ensures in
     record {
       first = subst (λ p. First (Crooked t) (Some (BadType p))) (sym place) (first_type t tree scope i low);
-      limits = limited t _ _ _ c.as-slice-types.ensures.value c.as-slice-nodes.ensures.value c.len.ensures.value c.as-slice-types.ensures.within c.as-slice-nodes.ensures.within c.len.ensures.within c.records-of-types.ensures.each;
+      limits = limited t _ _ _ c.as_slice-types.ensures.value c.as_slice-nodes.ensures.value c.len.ensures.value c.as_slice-types.ensures.within c.as_slice-nodes.ensures.within c.len.ensures.within c.records_of_types.ensures.each;
     }
 
 pub returns : goal.returns
 returns c =
     let t = c.args.tables.now in
-    let e = c.as-slice-nodes.ensures.value in
-    let tree = subst (λ xs. Lowest (λ k. misgrown xs k ≡ true) (length xs) None) e c.in-default.ensures in
-    let scope = subst (λ xs. Lowest (Misnamed xs) (length xs) None) e c.in-default-first-misnamed.ensures in
-    let types = subst (λ xs. Lowest (Misformed xs) (length xs) None) c.as-slice-types.ensures.value c.in-default-first-misformed.ensures in
+    let e = c.as_slice-nodes.ensures.value in
+    let tree = subst (λ xs. Lowest (λ k. misgrown xs k ≡ true) (length xs) None) e c.in_default.ensures in
+    let scope = subst (λ xs. Lowest (Misnamed xs) (length xs) None) e c.in_default-first_misnamed.ensures in
+    let types = subst (λ xs. Lowest (Misformed xs) (length xs) None) c.as_slice-types.ensures.value c.in_default-first_misformed.ensures in
     record {
       first = none_crooked t tree scope types;
-      limits = limited t _ _ _ c.as-slice-types.ensures.value c.as-slice-nodes.ensures.value c.len.ensures.value c.as-slice-types.ensures.within c.as-slice-nodes.ensures.within c.len.ensures.within c.records-of-types.ensures.each;
+      limits = limited t _ _ _ c.as_slice-types.ensures.value c.as_slice-nodes.ensures.value c.len.ensures.value c.as_slice-types.ensures.within c.as_slice-nodes.ensures.within c.len.ensures.within c.records_of_types.ensures.each;
     }

@@ -7,10 +7,10 @@ use Rattle.sheet.proofs.Growing.{last_channel_is}
 use Rattle.tables.proofs.Tabled.{with_last_push}
 use Rattle.sheet.proofs.fill.add_entry.Goals as goal
 
-pub returns-in-default-last-channel : goal.returns-in-default-last-channel
-returns-in-default-last-channel c =
+pub returns-in_default-last_channel : goal.returns-in_default-last_channel
+returns-in_default-last_channel c =
     let room = c.requires.room in
-    let none = c.in-default-last-channel.ensures in
+    let none = c.in_default-last_channel.ensures in
     let some = last_channel_is _ _ _ room.2 in
     λ e h s. let z : ◌≡◌ {A = ℕ} 0 1 = cc in omega arith
 

@@ -7,12 +7,12 @@ use Rattle.sheet.proofs.Progress.{first_readable, head_unfit, started, not_over,
 use Rattle.sheet.proofs.Reading.{shorter}
 use Rattle.sheet.proofs.fill.fill.Goals as goal
 
-pub returns-in-default : goal.returns-in-default
-returns-in-default c = absurd (first_readable c.args.basis _ _ c.requires.0 c.requires.1 c.in-default.ensures)
+pub returns-in_default : goal.returns-in_default
+returns-in_default c = absurd (first_readable c.args.basis _ _ c.requires.0 c.requires.1 c.in_default.ensures)
 
-pub returns-then-not-head-fits : goal.returns-then-not-head-fits
-returns-then-not-head-fits c =
-    head_unfit c.args.basis _ _ c.requires.0 c.requires.1 _ _ c.in-Some.ensures (not_from_Decides _ c.head-fits.ensures c.if-not-head-fits.true)
+pub returns-then-not-head_fits : goal.returns-then-not-head_fits
+returns-then-not-head_fits c =
+    head_unfit c.args.basis _ _ c.requires.0 c.requires.1 _ _ c.in-Some.ensures (not_from_Decides _ c.head_fits.ensures c.if-not-head_fits.true)
 
 pub loop-left-init : goal.loop-left-init
 loop-left-init c =
@@ -22,11 +22,11 @@ loop-left-init c =
       (c.requires.0, c.requires.1, started c.args.basis _ _ c.requires.0 c.requires.1 _ _ e (c.head_fits.ensures.0 c.if-not-head_fits.false) _ (record { types = z.0; names = z.1; nodes = z.2 })),
     )
 
-pub returns-in-default-read : goal.returns-in-default-read
-returns-in-default-read c =
+pub returns-in_default-read : goal.returns-in_default-read
+returns-in_default-read c =
     let i = c.loop-left.invariant.1 in
     let some = false-eqb _ 0 c.loop-left-test.ensures in
-    absurd (readable c.args.basis i.0 i.1.order _ _ _ i.2 (omega arith) c.in-default-read.ensures)
+    absurd (readable c.args.basis i.0 i.1.order _ _ _ i.2 (omega arith) c.in_default-read.ensures)
 
 pub add-requires : goal.add-requires
 add-requires c =

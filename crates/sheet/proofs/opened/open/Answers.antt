@@ -12,8 +12,8 @@ pub returns-in-Ok : goal.returns-in-Ok
 returns-in-Ok g c =
     let own = c.counting-counting.ensures in
     let C = g.C.Counting in
-    let b = same-basis (c.code.ensures ∙ ap C.tag own) (c.full_right.ensures ∙ ap (λ x. (C.operations x).full) own) (c.largest-entry.ensures ∙ ap (λ x. (C.operations x).largest) own) in
-    let asked : Basis = record { code = c.code.result; full = c.full_right.result; largest = c.largest-entry.result } in
+    let b = same-basis (c.code.ensures ∙ ap C.tag own) (c.full_right.ensures ∙ ap (λ x. (C.operations x).full) own) (c.largest_entry.ensures ∙ ap (λ x. (C.operations x).largest) own) in
+    let asked : Basis = record { code = c.code.result; full = c.full_right.result; largest = c.largest_entry.result } in
     let sealed = subst (λ t. Means asked c.args.bytes.now (Ok t)) (sym c.seal.ensures.1) c.in-Ok.ensures in
     record {
       meaning = subst (λ k. Means k c.args.bytes.now (Ok (g.C.Sheets.held c.seal.result))) b sealed;
@@ -26,7 +26,7 @@ pub returns-in-Err : goal.returns-in-Err
 returns-in-Err g c =
     let own = c.counting-counting.ensures in
     let C = g.C.Counting in
-    let b = same-basis (c.code.ensures ∙ ap C.tag own) (c.full_right.ensures ∙ ap (λ x. (C.operations x).full) own) (c.largest-entry.ensures ∙ ap (λ x. (C.operations x).largest) own) in
+    let b = same-basis (c.code.ensures ∙ ap C.tag own) (c.full_right.ensures ∙ ap (λ x. (C.operations x).full) own) (c.largest_entry.ensures ∙ ap (λ x. (C.operations x).largest) own) in
     record {
       meaning = subst (λ k. Means k c.args.bytes.now (Err c.in-Err.fault)) b c.in-Err.ensures;
       one = one_way c.args.bytes.now;

@@ -4,11 +4,11 @@ use Rattle.sheet.proofs.Reading.{one_more, shorter}
 use Rattle.sheet.proofs.Scanning.{ends_cut, ends_wrong, ends_none, ends_well}
 use Rattle.sheet.proofs.scan.scan.Goals as goal
 
-pub returns-in-default : goal.returns-in-default
-returns-in-default c =
+pub returns-in_default : goal.returns-in_default
+returns-in_default c =
     let i = c.loop-left.invariant.1 in
     let some = false-eqb _ 0 c.loop-left-test.ensures in
-    ends_cut i.0 _ _ _ i.1 i.2 c.in-default.ensures (omega arith)
+    ends_cut i.0 _ _ _ i.1 i.2 c.in_default.ensures (omega arith)
 
 pub loop-left-preserved : goal.loop-left-preserved
 loop-left-preserved c =

@@ -6,10 +6,10 @@ use Rattle.sheet.specs.Scope.{Any, Outside}
 use Rattle.sheet.proofs.Scoped.{any_place, any_more}
 use Rattle.sheet.proofs.scope.any_outside.Goals as goal
 
-pub returns-then-is-outside : goal.returns-then-is-outside
-returns-then-is-outside c =
+pub returns-then-is_outside : goal.returns-then-is_outside
+returns-then-is_outside c =
     let P = Outside c.args.binders.now c.args.parents.now c.args.n in
-    let here = subst (λ o. Any P (option_to_list o)) c.get.ensures (c.is-outside.ensures.0 c.if-is-outside.true) in
+    let here = subst (λ o. Any P (option_to_list o)) c.get.ensures (c.is_outside.ensures.0 c.if-is_outside.true) in
     (λ _. any_place P (parts c.args.names.now) c.loop-i.i here, λ _. refl)
 
 pub loop-i-preserved : goal.loop-i-preserved

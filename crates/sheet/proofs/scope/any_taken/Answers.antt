@@ -6,10 +6,10 @@ use Rattle.sheet.specs.Scope.{Any, Taken}
 use Rattle.sheet.proofs.Scoped.{any_place, any_more}
 use Rattle.sheet.proofs.scope.any_taken.Goals as goal
 
-pub returns-then-is-taken : goal.returns-then-is-taken
-returns-then-is-taken c =
+pub returns-then-is_taken : goal.returns-then-is_taken
+returns-then-is_taken c =
     let P = Taken c.args.binders.now c.args.n in
-    let here = subst (λ o. Any P (option_to_list o)) c.get.ensures (c.is-taken.ensures.0 c.if-is-taken.true) in
+    let here = subst (λ o. Any P (option_to_list o)) c.get.ensures (c.is_taken.ensures.0 c.if-is_taken.true) in
     (λ _. any_place P (parts c.args.names.now) c.loop-i.i here, λ _. refl)
 
 pub loop-i-preserved : goal.loop-i-preserved

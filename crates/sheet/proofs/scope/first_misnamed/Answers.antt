@@ -2,8 +2,8 @@ use Rattle.std.proofs.Common.{◌≤◌, length, arith}
 use Rattle.sheet.proofs.Charts.{charted}
 use Rattle.sheet.proofs.scope.first_misnamed.Goals as goal
 
-pub find-misnamed-requires : goal.find-misnamed-requires
-find-misnamed-requires c =
+pub find_misnamed-requires : goal.find_misnamed-requires
+find_misnamed-requires c =
     let room : length c.args.nodes.now ≤ length c.new-chart.result.parents = omega (arith, c.requires.few, c.new-chart.ensures.sizes.1) in
     charted
     c.args.nodes.now

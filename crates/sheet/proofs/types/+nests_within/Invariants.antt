@@ -4,8 +4,8 @@ use Rattle.tables.specs.Range.{all}
 use Rattle.sheet.specs.Types.{nests}
 use Rattle.sheet.proofs.types.+nests_within.Given as goal
 
-abbrev pub decreases-nests-within : goal.decreases-nests_within
-decreases-nests-within l = l.levels
+abbrev pub decreases-nests_within : goal.decreases-nests_within
+decreases-nests_within l = l.levels
 
 abbrev pub invariant-loop-component : goal.invariant-loop-component
 invariant-loop-component l =

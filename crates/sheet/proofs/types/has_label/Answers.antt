@@ -3,9 +3,9 @@ use Rattle.sheet.specs.Labels.Labelled.{labelled}
 use Rattle.sheet.proofs.Labelling.{decided, undecided, refuted, unlabelled_more, unlabelled_all}
 use Rattle.sheet.proofs.types.has_label.Goals as goal
 
-pub returns-then-same-label : goal.returns-then-same-label
-returns-then-same-label c =
-    decided (labelled c.loop-entry.entry-index _ c.loop-entry-test.true (c.if-same-label.ensures.0 refl))
+pub returns-then-same_label : goal.returns-then-same_label
+returns-then-same_label c =
+    decided (labelled c.loop-entry.entry-index _ c.loop-entry-test.true (c.if-same_label.ensures.0 refl))
 
 pub loop-entry-preserved : goal.loop-entry-preserved
 loop-entry-preserved c =

@@ -12,18 +12,18 @@ use Rattle.uses.proofs.Opened.{sound_entries, component_nested}
 use Rattle.uses.proofs.Required.{number, fits_pure, fits_public, fits_channel}
 use Rattle.uses.proofs.arguments.argument_fits.Goals as goal
 
-pub same-type-requires : goal.same-type-requires
-same-type-requires g c =
+pub same_type-requires : goal.same_type-requires
+same_type-requires g c =
     let K = g.C.Counting.operations c.args.counting.now in
     let t = c.args.tables.now in
     let types = elements t.types in
-    let e = c.as-slice-types.ensures.value in
-    let at = c.type-of.result in
+    let e = c.as_slice-types.ensures.value in
+    let at = c.type_of.result in
     let is = c.in-Channel.ensures ∙ ap (λ xs. type_at xs at) e in
-    let component = c.number-at-component.ensures ∙ ap (λ (x : SheetType). get_or (components x) c.args.place 0) is in
+    let component = c.number_at-component.ensures ∙ ap (λ (x : SheetType). get_or (components x) c.args.place 0) is in
     record {
       sound = λ i. subst (λ xs. SoundEntries K (entries (type_at xs i))) (sym e) (sound_entries K t c.requires i);
-      shallow = subst (λ xs. nests xs 3 c.number-at-component.result ≡ true) (sym e) (subst (λ k. nests types 3 k ≡ true) (sym component) (component_nested K t c.requires at c.args.place));
+      shallow = subst (λ xs. nests xs 3 c.number_at-component.result ≡ true) (sym e) (subst (λ k. nests types 3 k ≡ true) (sym component) (component_nested K t c.requires at c.args.place));
     }
 
 pub returns-in-Pure : goal.returns-in-Pure
@@ -31,36 +31,36 @@ returns-in-Pure g c =
     let K = g.C.Counting.operations c.args.counting.now in
     let t = c.args.tables.now in
     let types = elements t.types in
-    let e = c.as-slice-types.ensures.value in
-    let own = c.type-of-own.result in
-    let has = c.type-of-own.ensures ∙ ap (number t) c.number-at.ensures in
-    let is = c.in-Pure.ensures ∙ ap (λ xs. type_at xs c.type-of.result) e ∙ ap (type_at types) c.type-of.ensures in
-    let read = c.type-at-in-Pure.ensures ∙ ap (λ xs. type_at xs own) e in
-    fits_pure K t c.is-pure.result own c.args.channel (parts c.args.names) c.args.place has is (subst (λ x. Decides c.is-pure.result (x ≡ Pure)) read c.is-pure.ensures)
+    let e = c.as_slice-types.ensures.value in
+    let own = c.type_of-own.result in
+    let has = c.type_of-own.ensures ∙ ap (number t) c.number_at.ensures in
+    let is = c.in-Pure.ensures ∙ ap (λ xs. type_at xs c.type_of.result) e ∙ ap (type_at types) c.type_of.ensures in
+    let read = c.type_at-in-Pure.ensures ∙ ap (λ xs. type_at xs own) e in
+    fits_pure K t c.is_pure.result own c.args.channel (parts c.args.names) c.args.place has is (subst (λ x. Decides c.is_pure.result (x ≡ Pure)) read c.is_pure.ensures)
 
 pub returns-in-Public : goal.returns-in-Public
 returns-in-Public g c =
     let K = g.C.Counting.operations c.args.counting.now in
     let t = c.args.tables.now in
     let types = elements t.types in
-    let e = c.as-slice-types.ensures.value in
-    let own = c.type-of-own.result in
-    let has = c.type-of-own.ensures ∙ ap (number t) c.number-at.ensures in
-    let is = c.in-Public.ensures ∙ ap (λ xs. type_at xs c.type-of.result) e ∙ ap (type_at types) c.type-of.ensures in
-    let read = c.type-at-in-Public.ensures ∙ ap (λ xs. type_at xs own) e in
-    fits_public K t c.is-public.result own c.args.channel (parts c.args.names) c.args.place has is (subst (λ x. Decides c.is-public.result (x ≡ Public)) read c.is-public.ensures)
+    let e = c.as_slice-types.ensures.value in
+    let own = c.type_of-own.result in
+    let has = c.type_of-own.ensures ∙ ap (number t) c.number_at.ensures in
+    let is = c.in-Public.ensures ∙ ap (λ xs. type_at xs c.type_of.result) e ∙ ap (type_at types) c.type_of.ensures in
+    let read = c.type_at-in-Public.ensures ∙ ap (λ xs. type_at xs own) e in
+    fits_public K t c.is_public.result own c.args.channel (parts c.args.names) c.args.place has is (subst (λ x. Decides c.is_public.result (x ≡ Public)) read c.is_public.ensures)
 
 pub returns-in-Channel : goal.returns-in-Channel
 returns-in-Channel g c =
     let K = g.C.Counting.operations c.args.counting.now in
     let t = c.args.tables.now in
     let types = elements t.types in
-    let e = c.as-slice-types.ensures.value in
-    let own = c.type-of-own.result in
-    let has = c.type-of-own.ensures ∙ ap (number t) c.number-at.ensures in
-    let is = c.in-Channel.ensures ∙ ap (λ xs. type_at xs c.type-of.result) e ∙ ap (type_at types) c.type-of.ensures in
-    let component = c.number-at-component.result in
-    let earlier = parts c.first-names-earlier.result in
-    fits_channel K t c.same-type.result own c.args.channel (parts c.args.names) c.args.place has c.in-Channel.found earlier component is
-    c.first-names-earlier.ensures c.number-at-component.ensures
-    (subst (λ xs. Decides c.same-type.result (SameType K (type_within xs 4 own) (fill_type earlier 1 (type_within xs 3 component)))) e c.same-type.ensures)
+    let e = c.as_slice-types.ensures.value in
+    let own = c.type_of-own.result in
+    let has = c.type_of-own.ensures ∙ ap (number t) c.number_at.ensures in
+    let is = c.in-Channel.ensures ∙ ap (λ xs. type_at xs c.type_of.result) e ∙ ap (type_at types) c.type_of.ensures in
+    let component = c.number_at-component.result in
+    let earlier = parts c.first_names-earlier.result in
+    fits_channel K t c.same_type.result own c.args.channel (parts c.args.names) c.args.place has c.in-Channel.found earlier component is
+    c.first_names-earlier.ensures c.number_at-component.ensures
+    (subst (λ xs. Decides c.same_type.result (SameType K (type_within xs 4 own) (fill_type earlier 1 (type_within xs 3 component)))) e c.same_type.ensures)

@@ -8,4 +8,4 @@ pub loop-n-preserved : goal.loop-n-preserved
 loop-n-preserved g c =
     let K = g.C.Counting.operations c.args.counting.now in
     below_more _ _ c.loop-n.invariant
-    (subst (λ xs. TypesFit K (types_of c.args.tables.now) (node_at xs c.loop-n.n)) c.as-slice-node-items.ensures.value (c.if-not-types-fit.ensures.0 refl))
+    (subst (λ xs. TypesFit K (types_of c.args.tables.now) (node_at xs c.loop-n.n)) c.as_slice-node-items.ensures.value (c.if-not-types_fit.ensures.0 refl))

@@ -7,7 +7,7 @@ pub returns-in-Send : goal.returns-in-Send
 returns-in-Send g c =
     let K = g.C.Counting.operations c.args.counting.now in
     let types = types_of c.args.tables.now in
-    let r = c.arguments-fit.result in
-    ⊎_elim (λ e. subst (λ node. Decides r (TypesFit K types node)) (sym e) c.arguments-fit.ensures)
-    (λ e. subst (λ node. Decides r (TypesFit K types node)) (sym e.1) c.arguments-fit.ensures)
+    let r = c.arguments_fit.result in
+    ⊎_elim (λ e. subst (λ node. Decides r (TypesFit K types node)) (sym e) c.arguments_fit.ensures)
+    (λ e. subst (λ node. Decides r (TypesFit K types node)) (sym e.1) c.arguments_fit.ensures)
     c.in-Send.is

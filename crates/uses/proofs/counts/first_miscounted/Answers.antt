@@ -8,4 +8,4 @@ pub loop-n-preserved : goal.loop-n-preserved
 loop-n-preserved c =
     let n = c.loop-n.n in
     below_more _ _ c.loop-n.invariant
-    (subst (λ xs. CountFits (types_of c.args.tables.now) (node_at xs n)) c.as-slice-node-items.ensures.value (c.if-not-count-fits.ensures.0 refl))
+    (subst (λ xs. CountFits (types_of c.args.tables.now) (node_at xs n)) c.as_slice-node-items.ensures.value (c.if-not-count_fits.ensures.0 refl))

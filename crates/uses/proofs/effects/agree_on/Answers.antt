@@ -9,29 +9,29 @@ use Rattle.uses.specs.Entries.{placed_label, SameAmounts}
 use Rattle.uses.proofs.Comparing.{meant_at, meant_more}
 use Rattle.uses.proofs.effects.agree_on.Goals as goal
 
-pub amount-at-requires : goal.amount-at-requires
-amount-at-requires g c =
+pub amount_at-requires : goal.amount_at-requires
+amount_at-requires g c =
     record {
       sound = c.requires.left;
       placed = All-get_or (λ (e : Entry). placed_label e.label ≡ true) c.args.some.now c.loop-entry.entry-index _ c.loop-entry-test.true c.requires.some.placed;
     }
 
-pub amount-at-requires-in-loop-entry : goal.amount-at-requires-in-loop-entry
-amount-at-requires-in-loop-entry g c =
+pub amount_at-requires-in-loop-entry : goal.amount_at-requires-in-loop-entry
+amount_at-requires-in-loop-entry g c =
     record {
       sound = c.requires.right;
       placed = All-get_or (λ (e : Entry). placed_label e.label ≡ true) c.args.some.now c.loop-entry.entry-index _ c.loop-entry-test.true c.requires.some.placed;
     }
 
-pub returns-then-amount-at : goal.returns-then-amount-at
-returns-then-amount-at g c =
+pub returns-then-amount_at : goal.returns-then-amount_at
+returns-then-amount_at g c =
     let K = g.C.Counting.operations c.args.counting.now in
     let a = map entry c.args.left.now in
     let b = map entry c.args.right.now in
     undecided
-    (λ h. c.if-amount-at.true
+    (λ h. c.if-amount_at.true
     (c.amount_at.ensures ∙ meant_at (SameAmounts K a b) c.args.some.now c.loop-entry.entry-index _ c.loop-entry-test.true h
-    ∙ sym c.amount-at-in-loop-entry.ensures))
+    ∙ sym c.amount_at-in-loop-entry.ensures))
 
 pub loop-entry-preserved : goal.loop-entry-preserved
 loop-entry-preserved g c =
@@ -39,7 +39,7 @@ loop-entry-preserved g c =
     let a = map entry c.args.left.now in
     let b = map entry c.args.right.now in
     meant_more (SameAmounts K a b) c.args.some.now c.loop-entry.entry-index _ c.loop-entry-test.true c.loop-entry.invariant
-    (sym c.amount_at.ensures ∙ c.if-amount-at.false ∙ c.amount-at-in-loop-entry.ensures)
+    (sym c.amount_at.ensures ∙ c.if-amount_at.false ∙ c.amount_at-in-loop-entry.ensures)
 
 pub returns : goal.returns
 returns g c =

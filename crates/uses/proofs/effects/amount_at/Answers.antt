@@ -9,14 +9,14 @@ use Rattle.uses.specs.Entries.{placed_label}
 use Rattle.uses.proofs.Comparing.{at_step, at_fits_from}
 use Rattle.uses.proofs.effects.amount_at.Goals as goal
 
-pub amount-for-requires : goal.amount-for-requires
-amount-for-requires g c = (
+pub amount_for-requires : goal.amount_for-requires
+amount_for-requires g c = (
   All-get_or (λ (e : Entry). placed_label e.label ≡ true) c.args.entries.now (c.loop-i.i - 1) _ (omega arith) c.requires.sound.placed,
   c.requires.placed,
 )
 
-pub join-within-amount-requires : goal.join-within-amount-requires
-join-within-amount-requires g c =
+pub join_within-amount-requires : goal.join_within-amount-requires
+join_within-amount-requires g c =
     let K = g.C.Counting.operations c.args.counting.now in
     let W = g.met.C.Counting.lawful c.args.counting.now in
     let es = c.args.entries.now in
@@ -36,5 +36,5 @@ loop-i-preserved g c =
     let W = g.met.C.Counting.lawful c.args.counting.now in
     let es = c.args.entries.now in
     let L = label_of item c.args.label.now.items in
-    c.join-within-amount.ensures ∙ ap₂ K.join c.amount_for.ensures c.loop-i.invariant
+    c.join_within-amount.ensures ∙ ap₂ K.join c.amount_for.ensures c.loop-i.invariant
     ∙ sym (at_step K W es L c.loop-i.i _ c.loop-i-test.true c.loop-i.auto.i)

@@ -17,7 +17,7 @@ loop-place-preserved c =
     let ls = parts c.args.left.now in
     let rs = parts c.args.right.now in
     stacked_more ls rs c.args.level c.loop-place.place (waiting c.args.pending.now) _ _ _ _ c.loop-place.invariant
-    c.number-at.ensures c.number-at-in-loop-place.ensures c.push.ensures
+    c.number_at.ensures c.number_at-in-loop-place.ensures c.push.ensures
 
 pub returns : goal.returns
 returns c =

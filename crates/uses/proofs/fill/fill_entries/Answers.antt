@@ -10,8 +10,8 @@ use Rattle.uses.specs.Entries.{placed_label, Placed}
 use Rattle.uses.proofs.Filling.{pushed, filled_count, filled_more}
 use Rattle.uses.proofs.fill.fill_entries.Goals as goal
 
-pub fill-label-label-requires : goal.fill-label-label-requires
-fill-label-label-requires c =
+pub fill_label-label-requires : goal.fill_label-label-requires
+fill_label-label-requires c =
     All-get_or (λ (e : Entry). placed_label e.label ≡ true) c.args.entries.now c.loop-entry.entry-index _ c.loop-entry-test.true c.requires.1
 
 pub loop-entry-init : goal.loop-entry-init
@@ -27,8 +27,8 @@ loop-entry-preserved c =
     let count = filled_count ys level es fs i (omega arith) c.loop-entry.invariant.0 in
     let room : length fs < 8 = omega (arith, c.requires.0) in
     let e = pushed _ _ c.push.result (length fs) room c.push.ensures in (
-      filled_more ys level es fs (elements c.push.new.self) i _ _ c.loop-entry-test.true e c.loop-entry.invariant.0 c.fill-label-label.ensures.value refl,
-      subst Placed (sym e) (All-push (λ (x : Entry). placed_label x.label ≡ true) fs _ c.loop-entry.invariant.1 c.fill-label-label.ensures.placed),
+      filled_more ys level es fs (elements c.push.new.self) i _ _ c.loop-entry-test.true e c.loop-entry.invariant.0 c.fill_label-label.ensures.value refl,
+      subst Placed (sym e) (All-push (λ (x : Entry). placed_label x.label ≡ true) fs _ c.loop-entry.invariant.1 c.fill_label-label.ensures.placed),
     )
 
 pub returns : goal.returns

@@ -1,5 +1,5 @@
 use Rattle.judge.proofs.Stops.{one_stop_accepted}
 use Rattle.judge.proofs.passed.PassedSheet.new.Goals as goal
 
-pub passed-of-requires : goal.passed-of-requires
-passed-of-requires g c = one_stop_accepted _ _ c.new-opened.ensures.held
+pub passed_of-requires : goal.passed_of-requires
+passed_of-requires g c = one_stop_accepted _ _ c.new-opened.ensures.held

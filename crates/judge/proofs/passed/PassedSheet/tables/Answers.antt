@@ -9,9 +9,9 @@ returns g c =
     let s = c.args.self.now.passed in
     let i = g.C.Passing.inner s in
     let K = g.C.Counting.operations (g.C.Sheets.own i) in
-    let e = sym c.passed-tables.ensures in
+    let e = sym c.passed_tables.ensures in
     record {
-      value = c.passed-tables.ensures;
+      value = c.passed_tables.ensures;
       sound = subst (Sound K.largest) e (g.met.C.Sheets.sound i);
       accepted = subst (λ (t : Tables). ∥ Accepts K t ∥₁) e (g.met.C.Passing.accepted s);
     }

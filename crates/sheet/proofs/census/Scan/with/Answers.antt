@@ -3,10 +3,10 @@ use Rattle.sheet.specs.Order.{misplaced, class_of, Seen}
 use Rattle.sheet.proofs.Ordering.{some_of, none_of, seen_stays, seen_found, seen_more}
 use Rattle.sheet.proofs.census.Scan.with.Goals as goal
 
-pub returns-then-is-some : goal.returns-then-is-some
-returns-then-is-some c =
+pub returns-then-is_some : goal.returns-then-is_some
+returns-then-is_some c =
     let s = c.args.self.now in
-    let w = some_of s.wrong c.if-is-some.ensures in
+    let w = some_of s.wrong c.if-is_some.ensures in
     record { place = refl; seen = λ rs h. seen_stays rs c.args.given s w.0 h w.1 }
 
 pub returns-then-misplaces : goal.returns-then-misplaces
