@@ -1,5 +1,6 @@
 //! The bench: reads a sheet from standard input and prints one line about it.
 #![tactic(auto)]
+
 ghost use Rattle.std.specs.Prelude.{◌≤◌, length, IfOk};
 
 use std::io;

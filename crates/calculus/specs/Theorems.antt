@@ -1,5 +1,5 @@
 -- The theorems: that labels are ordered, that the rules and the checks agree, that runs are safe, that no join passes the ceiling, and that nothing of this is empty.
-use Rattle.std.specs.Prelude.{◌≡◌, ℕ, ◌*◌, ◌<◌, ◌≤◌, ◌≢◌}
+use Rattle.std.specs.Prelude.{ℕ, ◌*◌, ◌<◌, ◌≤◌, ◌≢◌}
 use Rattle.calculus.specs.Countings.{Operations, Laws}
 use Rattle.calculus.specs.Labels.{Label}
 use Rattle.calculus.specs.Orders.{StrictOrder, LabelBefore}

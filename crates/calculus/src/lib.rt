@@ -3,6 +3,7 @@
 //! The definitions and the statements stand in `specs/`, the proofs in `proofs/`. Each function here answers 0;
 //! what it is for stands in its contract, a theorem.
 #![tactic(auto)]
+
 ghost use Rattle.calculus.specs.Theorems.{LabelsOrdered, TypingAgrees, AcceptanceAgrees, RunsSafe, AmountsFit, NothingEmpty};
 
 /// Labels stand in one strict order, so that there is a first among the labels at fault.

@@ -4,6 +4,7 @@
 //! hexadecimal digits, or such digits and `*N`, which stands for their bytes N times. Lines that are empty or begin
 //! with `#` are comments.
 #![tactic(auto)]
+
 ghost use Rattle.std.specs.Prelude.{◌≡◌, ◌++◌, IfOk, string_bytes, codes};
 
 mod spelling;

@@ -1,5 +1,6 @@
 //! Countings: how amounts of a right are joined, and what one amount lacks against another.
 #![tactic(auto)]
+
 ghost use Rattle.std.specs.Prelude.{◌≡◌, ℕ, ◌≤◌};
 ghost use Rattle.std.specs.Option.{SomeIff};
 ghost use Rattle.calculus.specs.Countings.{Operations, Laws};

@@ -1,5 +1,5 @@
 -- What the derived `==` of items and of labels says: where the `==` of what they hold decides equality, so does theirs.
-use Rattle.std.proofs.Common.{◌≡◌, Bool, true, ◌&&◌, Decides, ap}
+use Rattle.std.proofs.Common.{◌≡◌, Bool, ◌&&◌, Decides, ap}
 use Rattle.std.proofs.lemmas.Bool.{and_parts, and_from}
 use Rattle.std.specs.declared.cmp.PartialEq.{Ghosts}
 use denote.RattleType.{RattleType}
@@ -12,11 +12,10 @@ use Rattle.fault.specs.contracts.label.LabelPartialEq.TheImpl as label_eq
 
 -- two tests that decide, joined
 pub both_decide : {P Q R : Type 0} (x y : Bool) → Decides x P → Decides y Q → (P → Q → R) → (R → P) → (R → Q) → Decides (x && y) R
-both_decide x y d e make first second =
-    (
-      λ h. let p = and_parts x y h in make (d.0 p.0) (e.0 p.1),
-      λ r. and_from x y (d.1 (first r)) (e.1 (second r)),
-    )
+both_decide x y d e make first second = (
+  λ h. let p = and_parts x y h in make (d.0 p.0) (e.0 p.1),
+  λ r. and_from x y (d.1 (first r)) (e.1 (second r)),
+)
 
 module _ (T : RattleType) (g : Ghosts T.Denot) (d : Dict) (same : (x y : T.Denot) → Decides (g.eq x y) (x ≡ y)) where
   -- of items

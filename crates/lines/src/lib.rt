@@ -1,5 +1,6 @@
 //! The line that answers an input, as the bench prints it.
 #![tactic(auto)]
+
 pub mod answer;
 pub mod choice;
 pub mod lines;

@@ -1,13 +1,13 @@
 -- The scope at a node: the scope at its parent, and what the parent binds; every node but 0 has a parent.
-use Rattle.std.proofs.Common.{◌≡◌, ℕ, zero, suc, ◌+◌, ◌<◌, ◌≤◌, Bool, true, false, eqb, ◌⊎◌, List, [], ◌∷◌, length, Some, None, Option, sym, refl, ap, ◌∙◌, inl, inr, ⊎_elim, arith}
-use Rattle.std.proofs.lemmas.Bool.{both_ways, cases_Bool, cases_lt, cond-true, cond-false, or_parts, eqb-false}
+use Rattle.std.proofs.Common.{◌≡◌, ℕ, zero, suc, ◌+◌, ◌<◌, ◌≤◌, true, false, eqb, ◌⊎◌, List, [], ◌∷◌, length, Some, None, Option, sym, refl, ap, ◌∙◌, inl, inr, ⊎_elim, arith}
+use Rattle.std.proofs.lemmas.Bool.{cases_Bool, cond-true, cond-false, or_parts, eqb-false}
 use Rattle.calculus.specs.Lists as lists
 use Rattle.calculus.specs.Scopes.{Scope}
 use Rattle.tables.specs.Elements.{elements}
 use Rattle.tables.specs.declared.tables.Node.{Node}
 use Rattle.tables.specs.declared.tables.Tables.{Tables}
 use Rattle.sheet.specs.Scope.{member, binds}
-use Rattle.sheet.specs.Tree.{children, node_at, named, misgrown}
+use Rattle.sheet.specs.Tree.{children, node_at, misgrown}
 use Rattle.sheet.proofs.Parents.{higher, one_parent, once, placed}
 use Rattle.meaning.specs.Scopes.{free, first_with, parent_of, scope_below, scope_within, scope_at}
 use Rattle.meaning.proofs.Sizes.{total, on, on_other, named_total}

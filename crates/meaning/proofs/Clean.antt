@@ -1,7 +1,7 @@
 -- A sheet with nothing to refuse is a sheet that the rules accept, and the other way round.
-use Rattle.std.proofs.Common.{◌≡◌, ℕ, zero, suc, ◌+◌, ◌<◌, ◌≤◌, Bool, true, false, not, ◌&&◌, ◌||◌, eqb, ltb, ◌⊎◌, List, [], ◌∷◌, length, get_or, take, Some, None, Option, sym, refl, ap, ◌∙◌, subst, inl, inr, ⊎_elim, arith}
+use Rattle.std.proofs.Common.{◌≡◌, ℕ, zero, suc, ◌+◌, ◌<◌, ◌≤◌, true, false, not, ◌&&◌, eqb, ltb, ◌⊎◌, List, [], ◌∷◌, length, get_or, take, Some, sym, refl, ap, ◌∙◌, subst, inl, inr, ⊎_elim, arith}
 use Rattle.std.proofs.lemmas.List.{get_or_past}
-use Rattle.std.proofs.lemmas.Bool.{false≢true, both_ways, cases_Bool, cases_lt, cond-true, cond-false, or_cases, or_left, or_right, or_parts, and_parts, and_from, eq-eqb, eqb-true, ne_eqb, ltb-true, lt-ltb, not_from_false}
+use Rattle.std.proofs.lemmas.Bool.{false≢true, both_ways, cases_Bool, cases_lt, cond-true, cond-false, or_cases, or_right, or_parts, and_parts, and_from, eq-eqb, eqb-true, ne_eqb, ltb-true, lt-ltb, not_from_false}
 use Rattle.calculus.specs.Checks.{Checks, Passes}
 use Rattle.calculus.specs.Countings.{Operations, Laws}
 use Rattle.calculus.specs.Effects.{amount}
@@ -9,7 +9,7 @@ use Rattle.calculus.specs.Labels.{Label, items}
 use Rattle.calculus.specs.Lists as lists
 use Rattle.calculus.specs.Scopes.{Scope, in_scope, WellFormed, WellFormedEnvironment}
 use Rattle.calculus.specs.Types.{Name, public}
-use Rattle.calculus.specs.Typing.{Accepted, ChannelUse, WellFormedInTurn}
+use Rattle.calculus.specs.Typing.{Accepted, WellFormedInTurn}
 use Rattle.calculus.proofs.Scopes.{environment_new, environment_receive}
 use Rattle.calculus.proofs.Typing.{acceptance_agrees, public_environment, typing_agrees}
 use Rattle.fault.specs.Items.{list}
@@ -20,7 +20,7 @@ use Rattle.tables.specs.declared.tables.Node.{Node}
 use Rattle.tables.specs.declared.tables.Node.TheVariants.{Stop, Send, Receive, Both, Copy, New, Test, Begin, End}
 use Rattle.tables.specs.declared.tables.Tables.{Tables}
 use Rattle.sheet.specs.Opening.{Sound}
-use Rattle.sheet.specs.Scope.{member, repeats, binds, Misnamed, binds_twice, bound_already}
+use Rattle.sheet.specs.Scope.{member, repeats, binds, binds_twice, bound_already}
 use Rattle.sheet.specs.Tree.{children, node_at}
 use Rattle.sheet.proofs.Parents.{higher, placed}
 use Rattle.sheet.proofs.Scanning.{is_false}

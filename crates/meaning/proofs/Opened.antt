@@ -1,5 +1,5 @@
 -- What opening established, in the terms of the calculus: how large a process is, and how small the entries are.
-use Rattle.std.proofs.Common.{◌≡◌, ℕ, zero, suc, ◌+◌, ◌-◌, ◌<◌, ◌≤◌, Bool, true, false, not, ◌&&◌, eqb, ltb, leb, List, [], ◌∷◌, map, length, get_or, sym, refl, ap, ◌∙◌, subst, ⊎_elim, arith}
+use Rattle.std.proofs.Common.{◌≡◌, ℕ, zero, suc, ◌+◌, ◌-◌, ◌<◌, ◌≤◌, Bool, true, false, not, ◌&&◌, eqb, ltb, leb, List, [], ◌∷◌, map, length, get_or, sym, ap, ◌∙◌, ⊎_elim, arith}
 use Rattle.std.specs.List.{AllByRecursion as All}
 use Rattle.std.proofs.lemmas.List.{length-map, get_or_past}
 use Rattle.std.proofs.lemmas.Bool.{and_parts, and_cases, or_parts, not-false, both_ways, cases_lt, eqb-true, leb-true, lt-ltb, ltb-true}
@@ -11,7 +11,7 @@ use Rattle.fault.specs.Items.{list}
 use Rattle.tables.specs.Channels.{entries}
 use Rattle.tables.specs.Elements.{elements}
 use Rattle.tables.specs.Encoding.{parts}
-use Rattle.tables.specs.Range.{all, all_from, below, item_fits, entry_fits, type_fits, node_fits, totals, ranged}
+use Rattle.tables.specs.Range.{all, all_from, below, item_fits, entry_fits, type_fits, node_fits}
 use Rattle.tables.specs.declared.tables.Entry.{Entry}
 use Rattle.tables.specs.declared.tables.Node.{Node}
 use Rattle.tables.specs.declared.tables.Node.TheVariants.{Stop, Send, Receive, Both, Copy, New, Test, Begin, End}

@@ -1,15 +1,14 @@
 -- The process of an opened sheet is scoped.
-use Rattle.std.proofs.Common.{◌≡◌, ℕ, zero, suc, ◌+◌, ◌<◌, ◌≤◌, Bool, true, false, not, ◌&&◌, ◌||◌, eqb, ltb, ◌⊎◌, List, [], ◌∷◌, length, get_or, sym, refl, ap, ◌∙◌, subst, inl, inr, ⊎_elim, arith}
+use Rattle.std.proofs.Common.{◌≡◌, ℕ, zero, suc, ◌+◌, ◌<◌, ◌≤◌, Bool, true, false, not, ◌&&◌, eqb, ltb, List, [], ◌∷◌, length, sym, refl, ap, ◌∙◌, subst, inl, ⊎_elim, arith}
 use Rattle.std.specs.List.{AllByRecursion as All}
 use Rattle.std.proofs.lemmas.List.{get_or_past}
-use Rattle.std.proofs.lemmas.Bool.{false≢true, both_ways, eqb-true, eq-eqb, ltb-true, lt-ltb, or_cases, or_left, or_right, or_parts, and_parts, and_from, cases_Bool, cases_lt, not_from_false, not-true}
+use Rattle.std.proofs.lemmas.Bool.{false≢true, both_ways, eqb-true, eq-eqb, ltb-true, lt-ltb, or_cases, or_left, or_right, or_parts, and_parts, and_from, cases_lt, not_from_false, not-true}
 use Rattle.fault.specs.Items.{list}
 use Rattle.fault.specs.declared.items.Items.{Items}
 use Rattle.fault.specs.declared.items.Items.TheVariants.{One, Two, Three, Four}
 use Rattle.calculus.specs.Lists as lists
 use Rattle.calculus.specs.Labels.{items}
-use Rattle.calculus.specs.Processes.{Process}
-use Rattle.calculus.specs.Scopes.{Scope, in_scope, label_in_scope, Fresh}
+use Rattle.calculus.specs.Scopes.{Scope, in_scope, Fresh}
 use Rattle.tables.specs.Elements.{elements}
 use Rattle.tables.specs.Encoding.{parts}
 use Rattle.tables.specs.Range.{all, below, node_fits}
@@ -26,7 +25,7 @@ use Rattle.meaning.specs.Labels.{label_of}
 use Rattle.meaning.specs.Processes.{shape, process_at}
 use Rattle.meaning.specs.Scopes.{bound, free, Scoped}
 use Rattle.meaning.proofs.Unfolding.{first, second, process_unfolds}
-use Rattle.meaning.proofs.Scoping.{ScopeOf, Reaches, find_binder, is_bound, lower, use_scoped, bind_fresh, child_scope}
+use Rattle.meaning.proofs.Scoping.{ScopeOf, lower, use_scoped, bind_fresh, child_scope}
 
 -- a property of every member, as one of the list
 each_member : (P : ℕ → Type 0) (xs : List ℕ) → ((x : ℕ) → member x xs ≡ true → P x) → All P xs

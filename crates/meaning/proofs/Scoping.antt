@@ -1,14 +1,13 @@
 -- Every name of an opened sheet's process is in scope where it is used, and fresh where it is bound.
-use Rattle.std.proofs.Common.{◌≡◌, ℕ, zero, suc, ◌+◌, ◌<◌, ◌≤◌, Bool, true, false, cond, not, ◌&&◌, ◌||◌, eqb, ltb, ◌⊎◌, List, [], ◌∷◌, length, sym, refl, ap, ◌∙◌, subst, inl, inr, ⊎_elim, arith}
-use Rattle.std.proofs.lemmas.Bool.{false≢true, both_ways, eqb-true, eqb-false, eq-eqb, ltb-true, lt-ltb, or_cases, or_left, or_right, or_parts, and_parts, and_from, cases_Bool, cases_lt, cases_eq, not_from_false, not-true}
+use Rattle.std.proofs.Common.{◌≡◌, ℕ, zero, suc, ◌<◌, ◌≤◌, true, false, cond, eqb, ltb, ◌⊎◌, List, [], ◌∷◌, length, sym, ap, ◌∙◌, subst, inl, inr, ⊎_elim, arith}
+use Rattle.std.proofs.lemmas.Bool.{false≢true, both_ways, eqb-true, eq-eqb, ltb-true, lt-ltb, or_cases, or_left, or_right, and_parts, and_from, cases_Bool, cases_lt}
 use Rattle.calculus.specs.Lists as lists
-use Rattle.calculus.specs.Scopes.{Scope, in_scope, Fresh}
-use Rattle.tables.specs.Range.{all, below}
+use Rattle.calculus.specs.Scopes.{Scope, in_scope}
+use Rattle.tables.specs.Range.{below}
 use Rattle.tables.specs.declared.tables.Node.{Node}
-use Rattle.tables.specs.declared.tables.Node.TheVariants.{Stop}
 use Rattle.sheet.specs.Tree.{children, node_at, misgrown}
-use Rattle.sheet.specs.Scope.{member, repeats, binds, uses, Below, child, further, Binder, Misnamed, binds_twice, bound_already, out_of_scope}
-use Rattle.sheet.proofs.Parents.{placed, higher, one_parent}
+use Rattle.sheet.specs.Scope.{member, binds, uses, Below, child, further, Binder, Misnamed, bound_already, out_of_scope}
+use Rattle.sheet.proofs.Parents.{higher, one_parent}
 use Rattle.meaning.specs.Scopes.{bound}
 
 -- no lower node binds x, with one node more in front

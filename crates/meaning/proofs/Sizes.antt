@@ -1,6 +1,6 @@
 -- Where every node is a child just once, no process of a node has more nodes than stand from that node on.
-use Rattle.std.proofs.Common.{◌≡◌, ℕ, zero, suc, ◌+◌, ◌-◌, ◌*◌, ◌<◌, ◌≤◌, Bool, true, false, cond, ◌&&◌, eqb, ltb, List, [], ◌∷◌, length, get_or, drop, sum_by, sym, refl, ap, ◌∙◌, subst, ap₂, ⊎_elim, le_trans, le_refl, add-mul, one-mul, zero-mul, add-one, arith}
-use Rattle.std.proofs.lemmas.List.{get_or_past, drop_more, drop_all}
+use Rattle.std.proofs.Common.{◌≡◌, ℕ, zero, suc, ◌+◌, ◌*◌, ◌<◌, ◌≤◌, Bool, true, false, cond, eqb, List, [], ◌∷◌, length, get_or, drop, sum_by, sym, refl, ap, ◌∙◌, subst, ap₂, ⊎_elim, le_trans, le_refl, add-mul, one-mul, zero-mul, add-one, arith}
+use Rattle.std.proofs.lemmas.List.{drop_more, drop_all}
 use Rattle.std.proofs.lemmas.List.Sums.{sum_by-cons}
 use Rattle.std.proofs.lemmas.Bool.{cases_lt, cases_order, eq-eqb, ne_eqb}
 use Rattle.calculus.specs.Processes.{Process, size}

@@ -1,5 +1,5 @@
 -- The amount at a node, from the amounts at its children.
-use Rattle.std.proofs.Common.{◌≡◌, ℕ, List, refl, ap, ◌∙◌}
+use Rattle.std.proofs.Common.{◌≡◌, ℕ, refl, ap, ◌∙◌}
 use Rattle.calculus.specs.Countings.{Operations}
 use Rattle.calculus.specs.Effects.{amount}
 use Rattle.calculus.specs.Labels.{Label}

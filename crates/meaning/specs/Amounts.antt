@@ -1,5 +1,5 @@
 -- The least amounts of a sheet's nodes, each from those of its children.
-use Rattle.std.specs.Prelude.{◌≡◌, ℕ, ◌≤◌, max, List}
+use Rattle.std.specs.Prelude.{◌≡◌, ℕ, ◌≤◌, max}
 use Rattle.calculus.specs.Countings.{Operations}
 use Rattle.calculus.specs.Effects.{Effect, latent, full_right, amount}
 use Rattle.calculus.specs.Labels.{Label}

@@ -1,5 +1,5 @@
 -- What judging adds to scope: the checks of the calculus without those that opening has made.
-use Rattle.std.specs.Prelude.{◌≡◌, ℕ, List, [], ◌∷◌}
+use Rattle.std.specs.Prelude.{◌≡◌, [], ◌∷◌}
 use Rattle.calculus.specs.Checks.{Checks}
 use Rattle.calculus.specs.Countings.{Operations}
 use Rattle.calculus.specs.Effects.{amount}

@@ -1,7 +1,6 @@
 -- Which names are free in a sheet, and which are in scope at a node.
 use Rattle.std.specs.Prelude.{◌≡◌, ℕ, zero, suc, Bool, true, false, cond, not, ◌&&◌, ◌||◌, List, [], ◌∷◌, length, Some, None, Option, ◌==◌, nat_lt}
 use Rattle.calculus.specs.Lists.{◌∈◌}
-use Rattle.calculus.specs.Labels.{items}
 use Rattle.calculus.specs.Processes.{Process, stop, send, receive, both, copy, new, test, begin, end}
 use Rattle.calculus.specs.Scopes.{Scope, in_scope, label_in_scope, Fresh}
 use Rattle.calculus.specs.Lists as lists

@@ -1,5 +1,6 @@
 //! What a sheet means: the process of its nodes, the types of its names, and their scope, in the terms of the calculus.
 #![tactic(auto)]
+
 ghost use Rattle.std.specs.Prelude.{◌≡◌, ℕ, ◌≤◌, length};
 ghost use Rattle.calculus.specs.Ceiling.{EntriesSmall};
 ghost use Rattle.calculus.specs.Processes.{size};

@@ -1,5 +1,5 @@
 -- One record more in the tables is one record more among their records, in range as the others.
-use Rattle.std.proofs.Common.{◌≡◌, ℕ, suc, ◌+◌, ◌<◌, Bool, true, false, ◌&&◌, ltb, List, [], ◌∷◌, ◌++◌, map, length, sym, refl, ap, ◌∙◌, subst, ap₂, append_assoc, arith}
+use Rattle.std.proofs.Common.{◌≡◌, ℕ, suc, ◌+◌, Bool, true, false, List, [], ◌∷◌, ◌++◌, map, length, sym, refl, ap, ◌∙◌, ap₂, append_assoc, arith}
 use Rattle.std.specs.List.{flat_map}
 use Rattle.std.proofs.lemmas.List.{append-nil, map_push, nil_from_length, flat_map_more}
 use Rattle.std.proofs.lemmas.Bool.{and_parts, and_from, lt-ltb}
@@ -7,7 +7,7 @@ use Rattle.tables.specs.Elements.{elements}
 use Rattle.tables.specs.Encoding.{parts, spread, entry_record, type_records, node_record, body}
 use Rattle.tables.specs.Range.{Totals, all, all_from, below, type_fits, entry_fits, node_fits, ranged, Fits, fits_pure, fits_public, fits_channel, fits_entry, fits_name, fits_node}
 use Rattle.sheet.specs.Order.{class_of, misplaced}
-use Rattle.sheet.specs.Filling.{LastChannel, Grown, grown_type, grown_entry, grown_name, grown_node}
+use Rattle.sheet.specs.Filling.{Grown, grown_type, grown_entry, grown_name, grown_node}
 use Rattle.tables.specs.declared.basis.Basis.{Basis}
 use Rattle.sheet.specs.declared.census.Census.{Census}
 use Rattle.sheet.specs.declared.census.Class.TheVariants as class
@@ -17,7 +17,6 @@ use Rattle.tables.specs.declared.tables.ChannelType.{ChannelType}
 use Rattle.tables.specs.declared.tables.Entry.{Entry}
 use Rattle.tables.specs.declared.tables.SheetType.{SheetType}
 use Rattle.tables.specs.declared.tables.SheetType.TheVariants.{Pure, Public, Channel}
-use Rattle.tables.specs.declared.tables.Node.{Node}
 use Rattle.tables.specs.declared.tables.Tables.{Tables}
 use Rattle.sheet.proofs.Matching.{Matches, type_placed, entry_placed, name_placed, first_of}
 

@@ -1,8 +1,8 @@
 -- One record more in the tables: for the functions that add it.
-use Rattle.std.proofs.Common.{◌≡◌, ℕ, ◌-◌, ◌<◌, ◌≤◌, Bool, true, false, List, [], ◌∷◌, ◌++◌, map, length, get_or, Some, None, MatchBool, Option, sym, refl, ap, ◌∙◌, subst, arith}
+use Rattle.std.proofs.Common.{◌≡◌, ℕ, ◌≤◌, Bool, true, false, List, map, length, Some, None, MatchBool, Option, sym, ap, ◌∙◌, arith}
 use Rattle.std.proofs.lemmas.Bool.{both_ways}
 use Rattle.fault.specs.Items.{list}
-use Rattle.tables.specs.Elements.{elements, last_of}
+use Rattle.tables.specs.Elements.{last_of}
 use Rattle.tables.specs.Encoding.{parts, spread, item_byte, entry_record}
 use Rattle.tables.specs.Decoding.{tuple_of, entry_of}
 use Rattle.tables.specs.Range.{Totals, below, entry_fits}

@@ -1,11 +1,10 @@
 -- The tables grow as the census does: what one record more keeps.
-use Rattle.std.proofs.Common.{◌≡◌, ℕ, zero, suc, ◌+◌, ◌-◌, ◌<◌, ◌≤◌, Bool, true, false, cond, ◌&&◌, List, [], ◌∷◌, ◌++◌, map, length, sym, refl, ap, ◌∙◌, subst, ap₂, append_assoc, arith}
-use Rattle.std.specs.List.{flat_map}
-use Rattle.std.proofs.lemmas.List.{append-nil, length_push, map_push, same_from_push}
-use Rattle.std.proofs.lemmas.Bool.{or_parts, and_parts, and_from, eqb-false, ltb-false, leb-false}
+use Rattle.std.proofs.Common.{◌≡◌, ℕ, ◌+◌, ◌<◌, false, List, [], ◌∷◌, ◌++◌, map, length, sym, refl, ap, ◌∙◌, subst, arith}
+use Rattle.std.proofs.lemmas.List.{length_push, same_from_push}
+use Rattle.std.proofs.lemmas.Bool.{or_parts, eqb-false, ltb-false, leb-false}
 use Rattle.tables.specs.Elements.{elements}
-use Rattle.tables.specs.Encoding.{parts, spread, entry_record, type_records, node_record, body}
-use Rattle.tables.specs.Range.{Totals, all, all_from, below, type_fits, entry_fits, node_fits, ranged, Fits, fits_pure, fits_public, fits_channel, fits_entry, fits_name, fits_node}
+use Rattle.tables.specs.Encoding.{entry_record, node_record}
+use Rattle.tables.specs.Range.{Totals}
 use Rattle.sheet.specs.Order.{class_of, misplaced, after}
 use Rattle.sheet.specs.Filling.{LastChannel, Room, Grown, grown_type, grown_entry, grown_name, grown_node}
 use Rattle.tables.specs.declared.basis.Basis.{Basis}
@@ -13,9 +12,7 @@ use Rattle.sheet.specs.declared.census.Census.{Census}
 use Rattle.sheet.specs.declared.census.Class.{Class}
 use Rattle.sheet.specs.declared.census.Class.TheVariants as class
 use Rattle.records.specs.declared.record.Record.{Record}
-use Rattle.records.specs.declared.record.Record.TheVariants as raw
 use Rattle.tables.specs.declared.tables.ChannelType.{ChannelType}
-use Rattle.tables.specs.declared.tables.Entry.{Entry}
 use Rattle.tables.specs.declared.tables.SheetType.{SheetType}
 use Rattle.tables.specs.declared.tables.SheetType.TheVariants.{Pure, Public, Channel}
 use Rattle.tables.specs.declared.tables.Node.{Node}

@@ -1,18 +1,17 @@
 -- The first fault of a reading, from the look that found it.
-use Rattle.std.proofs.Common.{◌≡◌, ℕ, ◌<◌, ◌≤◌, true, false, List, [], ◌∷◌, ◌++◌, length, Some, None, Ok, Err, sym, refl, ap, ◌∙◌, subst, inl, inr, ⊎_elim, arith}
+use Rattle.std.proofs.Common.{◌≡◌, ℕ, ◌<◌, ◌≤◌, true, List, [], ◌++◌, length, Some, None, Ok, Err, refl, ap, ◌∙◌, inl, inr, ⊎_elim, arith}
 use Rattle.std.specs.List.{flat_map}
 use Rattle.std.proofs.lemmas.List.{append-nil}
 use Rattle.std.proofs.lemmas.Bool.{cases_lt, both_ways}
-use Rattle.fault.specs.Faults.{number_of, place_of}
+use Rattle.fault.specs.Faults.{number_of}
 use Rattle.fault.specs.First.{First, Precedes}
 use Rattle.fault.specs.declared.fault.Fault.{Fault}
 use Rattle.fault.specs.declared.fault.Fault.TheVariants as fault
 use Rattle.tables.specs.Elements.{elements}
 use Rattle.records.specs.Records.{codes, Unreadable}
-use Rattle.tables.specs.Encoding.{records}
-use Rattle.sheet.specs.Order.{census, misplaced_at, Ordered, Unfinished, cut, wrong, none}
+use Rattle.sheet.specs.Order.{misplaced_at, Ordered, Unfinished, cut, wrong, none}
 use Rattle.sheet.specs.Filling.{FitsAt, Readable, Spells}
-use Rattle.sheet.specs.Opening.{Reading, Limited, Crooked, not_a_tree, out_of_scope, bad_type, Faulty, unreadable, wrong_order, no_node, out_of_range, crooked, Sound, Means}
+use Rattle.sheet.specs.Opening.{Reading, Limited, Crooked, not_a_tree, out_of_scope, bad_type, Faulty, unreadable, wrong_order, no_node, out_of_range, crooked, Means}
 use Rattle.tables.specs.declared.basis.Basis.{Basis}
 use Rattle.sheet.specs.declared.census.Census.{Census}
 use Rattle.records.specs.declared.record.Record.{Record}

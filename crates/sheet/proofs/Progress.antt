@@ -1,5 +1,5 @@
 -- How far a fill has come, one record more, and how it ends.
-use Rattle.std.proofs.Common.{◌≡◌, ℕ, zero, suc, ◌+◌, ◌<◌, ◌≤◌, true, false, List, [], ◌∷◌, ◌++◌, map, length, get_or, take, drop, Ok, Err, sym, refl, ap, ◌∙◌, subst, ap₂, ⊎_elim, arith, length-append}
+use Rattle.std.proofs.Common.{◌≡◌, ℕ, zero, suc, ◌+◌, ◌<◌, ◌≤◌, true, false, List, [], ◌∷◌, ◌++◌, map, length, get_or, take, drop, Err, sym, refl, ap, ◌∙◌, subst, ap₂, ⊎_elim, arith, length-append}
 use Rattle.std.specs.List.{flat_map}
 use Rattle.std.proofs.lemmas.List.{take_more, drop_more, drop_all, take_all, nil_from_length}
 use Rattle.std.proofs.lemmas.Bool.{cases_lt, both_ways, and_from}
@@ -7,7 +7,7 @@ use Rattle.tables.specs.Elements.{elements}
 use Rattle.records.specs.Records.{codes, Unreadable}
 use Rattle.tables.specs.Encoding.{body, records, type_records, node_record}
 use Rattle.tables.specs.Range.{Totals, totals, all_from, below, type_fits, node_fits, ranged, Fits, fits_head, fits_pure, fits_public, fits_channel, fits_entry, fits_name, fits_node}
-use Rattle.sheet.specs.Order.{class_of, nothing, misplaced, after, census, misplaced_at, Ordered}
+use Rattle.sheet.specs.Order.{class_of, nothing, misplaced, after, census, Ordered}
 use Rattle.sheet.specs.Filling.{totals_of, Room, Grown, FitsAt, Readable, Spells, Filled}
 use Rattle.tables.specs.declared.basis.Basis.{Basis}
 use Rattle.sheet.specs.declared.census.Census.{Census}

@@ -1,5 +1,5 @@
 -- Bytes have one reading.
-use Rattle.std.proofs.Common.{◌≡◌, ℕ, List, [], ◌∷◌, ◌++◌, sym, refl, ap, ◌∙◌, ap₂, append_assoc}
+use Rattle.std.proofs.Common.{◌≡◌, ℕ, List, [], ◌∷◌, ◌++◌, sym, refl, ◌∙◌, ap₂, append_assoc}
 use Rattle.std.specs.List.{flat_map}
 use Rattle.records.specs.Records.{codes, Unreadable}
 use Rattle.records.specs.declared.record.Record.{Record}

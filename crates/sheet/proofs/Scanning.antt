@@ -1,12 +1,12 @@
 -- How a scan ends, from what it has seen.
-use Rattle.std.proofs.Common.{◌≡◌, ℕ, ◌<◌, Bool, true, false, List, [], ◌++◌, length, Some, None, Ok, Err, sym, refl, ap, ◌∙◌, subst, ⊎_elim, arith}
+use Rattle.std.proofs.Common.{◌≡◌, ℕ, ◌<◌, Bool, true, false, List, ◌++◌, length, Some, None, Ok, Err, sym, ap, ◌∙◌, subst, ⊎_elim, arith}
 use Rattle.std.specs.List.{flat_map}
 use Rattle.std.proofs.lemmas.List.{append-nil, nil_from_length}
 use Rattle.std.proofs.lemmas.Bool.{cases_Bool}
 use Rattle.fault.specs.First.{Lowest}
 use Rattle.fault.specs.declared.fault.Fault.TheVariants as fault
 use Rattle.records.specs.Records.{codes, Unreadable}
-use Rattle.sheet.specs.Order.{census, misplaced_at, Ordered, Seen, Unfinished, cut, wrong, none, Scanned}
+use Rattle.sheet.specs.Order.{misplaced_at, Ordered, Seen, Unfinished, cut, wrong, none, Scanned}
 use Rattle.records.specs.declared.record.Record.{Record}
 use Rattle.sheet.specs.declared.census.Scan.{Scan}
 use Rattle.sheet.proofs.Reading.{no_record}

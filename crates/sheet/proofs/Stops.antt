@@ -1,15 +1,14 @@
 -- A sheet of one stop is sound by every counting.
-use Rattle.std.proofs.Common.{◌≡◌, ℕ, zero, suc, ◌<◌, ◌≤◌, true, false, ◌&&◌, List, [], ◌∷◌, length, sym, refl, ap, ◌∙◌, subst, ap₂, arith}
+use Rattle.std.proofs.Common.{◌≡◌, ℕ, ◌<◌, ◌≤◌, true, ◌&&◌, [], ◌∷◌, length, sym, ap, ◌∙◌, subst, ap₂, arith}
 use Rattle.fault.specs.declared.fault.Fault.{Fault}
 use Rattle.std.proofs.lemmas.Bool.{false≢true}
 use Rattle.tables.specs.Elements.{elements}
-use Rattle.tables.specs.Range.{totals, ranged, all, all_from, below, type_fits, node_fits}
+use Rattle.tables.specs.Range.{all, all_from, below, type_fits, node_fits}
 use Rattle.sheet.specs.Tree.{node_at, misgrown}
 use Rattle.sheet.specs.Scope.{member, repeats, binds, uses, Misnamed, binds_twice, bound_already, out_of_scope}
 use Rattle.tables.specs.Channels.{entries}
 use Rattle.sheet.specs.Types.{type_at}
 use Rattle.sheet.specs.Opening as opening
-use Rattle.tables.specs.declared.tables.Node.{Node}
 use Rattle.tables.specs.declared.tables.Node.TheVariants.{Stop}
 use Rattle.tables.specs.declared.tables.Tables.{Tables}
 

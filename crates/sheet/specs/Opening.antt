@@ -1,5 +1,5 @@
 -- What opening answers: the first fault of the bytes, or the sheet that they mean.
-use Rattle.std.specs.Prelude.{◌≡◌, ℕ, suc, ◌+◌, ◌<◌, ◌≤◌, true, false, List, [], ◌∷◌, ◌++◌, length, take, Some, None, Ok, Err, Option, Result}
+use Rattle.std.specs.Prelude.{◌≡◌, ℕ, suc, ◌+◌, ◌<◌, ◌≤◌, true, List, [], ◌∷◌, ◌++◌, length, take, Some, None, Ok, Err, Option, Result}
 use Rattle.std.specs.List.{flat_map}
 use Rattle.calculus.specs.Countings.{Operations}
 use Rattle.fault.specs.First.{First}

@@ -1,6 +1,6 @@
 -- The order of records: one head, then types (each channel followed by its entries), then names, then nodes; at most
 -- 64 types, 8 entries a type, 64 names and 1,024 nodes.
-use Rattle.std.specs.Prelude.{◌≡◌, ℕ, ◌+◌, ◌-◌, ◌<◌, Bool, true, false, not, ◌&&◌, ◌||◌, List, [], ◌∷◌, ◌++◌, length, take, None, Ok, Err, fold, Result, ◌==◌, ◌≢◌, nat_le, nat_lt, slice_index_or}
+use Rattle.std.specs.Prelude.{◌≡◌, ℕ, ◌+◌, ◌-◌, ◌<◌, Bool, true, false, ◌||◌, List, ◌++◌, length, take, None, Ok, Err, fold, Result, ◌==◌, ◌≢◌, nat_le, nat_lt, slice_index_or}
 use Rattle.std.specs.List.{flat_map}
 use Rattle.fault.specs.First.{Lowest}
 use Rattle.fault.specs.declared.fault.Fault.{Fault}

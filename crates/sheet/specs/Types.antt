@@ -1,5 +1,5 @@
 -- What a type must keep beyond its ranges: no label twice, and nesting at most 4.
-use Rattle.std.specs.Prelude.{◌≡◌, ℕ, zero, suc, ◌<◌, Bool, true, false, List, [], length, get_or, slice_index_or}
+use Rattle.std.specs.Prelude.{◌≡◌, ℕ, zero, suc, ◌<◌, Bool, false, List, length, get_or, slice_index_or}
 use Rattle.tables.specs.Channels.{components, entries}
 use Rattle.tables.specs.Range.{all}
 use Rattle.tables.specs.declared.tables.Entry.{Entry}

@@ -1,15 +1,14 @@
 -- What is in range is got back from its record.
-use Rattle.std.proofs.Common.{◌≡◌, ℕ, zero, suc, ◌+◌, ◌-◌, ◌*◌, ◌/◌, ◌%◌, ◌<◌, ◌≤◌, Bool, true, false, cond, ◌&&◌, eqb, ltb, leb, List, [], ◌∷◌, map, length, Some, None, Option, sym, refl, ap, ◌∙◌, ap₂, arith}
+use Rattle.std.proofs.Common.{◌≡◌, ℕ, ◌+◌, ◌-◌, ◌*◌, ◌/◌, ◌%◌, ◌≤◌, true, false, eqb, ltb, map, length, Some, refl, ap, ◌∙◌, ap₂, arith}
 use Rattle.std.specs.Option.{option_map}
-use Rattle.std.proofs.lemmas.Bool.{ltb-true, leb-true, lt-ltb, le-ltb, ne_eqb, eq-eqb, and_parts, and_from}
+use Rattle.std.proofs.lemmas.Bool.{ltb-true, leb-true, lt-ltb, le-ltb, ne_eqb, and_parts, and_from}
 use Rattle.fault.specs.Items.{list}
 use Rattle.fault.specs.declared.items.Items.{Items}
 use Rattle.fault.specs.declared.items.Items.TheVariants.{One, Two, Three, Four}
 use Rattle.fault.specs.declared.label.Label.{Label}
-use Rattle.tables.specs.Encoding.{parts, spread, item_byte, entry_record, node_record}
-use Rattle.tables.specs.Decoding.{used, counted, tuple_of, label_of, item_of, longer, items_of, items_in, entry_of, node_of}
+use Rattle.tables.specs.Encoding.{parts, spread, item_byte, node_record}
+use Rattle.tables.specs.Decoding.{used, counted, tuple_of, label_of, item_of, longer, items_in, entry_of, node_of}
 use Rattle.tables.specs.Range.{all, below, item_fits, entry_fits, node_fits}
-use Rattle.records.specs.declared.record.Quad.{Quad}
 use Rattle.tables.specs.declared.tuple.Tuple.{Tuple}
 use Rattle.tables.specs.declared.tuple.Tuple.TheVariants.{Empty, Of}
 use Rattle.tables.specs.declared.tables.Item.{Item}

@@ -1,6 +1,6 @@
 -- Records read back: what a record's four bytes, its item bytes and its fields stand for, where they stand for anything.
 -- It undoes the encoding: something in range is got back from its record, and what is got has that record.
-use Rattle.std.specs.Prelude.{ℕ, ◌+◌, ◌-◌, ◌/◌, ◌%◌, Bool, cond, ◌&&◌, List, [], length, Some, None, Option, ◌==◌, nat_lt}
+use Rattle.std.specs.Prelude.{ℕ, ◌+◌, ◌-◌, ◌/◌, ◌%◌, Bool, cond, ◌&&◌, length, Some, None, Option, ◌==◌, nat_lt}
 use Rattle.std.specs.Option.{option_map}
 use Rattle.fault.specs.Items.{list}
 use Rattle.fault.specs.declared.items.Items.{Items}

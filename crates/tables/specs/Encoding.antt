@@ -2,7 +2,6 @@
 use Rattle.std.specs.Prelude.{ℕ, ◌+◌, ◌-◌, ◌*◌, List, [], ◌∷◌, ◌++◌, map, length, slice_index_or}
 use Rattle.std.specs.List.{flat_map}
 use Rattle.fault.specs.Items.{list}
-use Rattle.fault.specs.declared.label.Label.{Label}
 use Rattle.tables.specs.Elements.{elements}
 use Rattle.tables.specs.declared.basis.Basis.{Basis}
 use Rattle.records.specs.declared.record.Quad.{Quad}

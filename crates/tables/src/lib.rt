@@ -1,5 +1,6 @@
 //! The tables of a sheet: their forms, how a record becomes one of them, and which fields are in range.
 #![tactic(auto)]
+
 pub mod basis;
 pub mod decode;
 pub mod range;

@@ -1,4 +1,4 @@
-use Rattle.std.proofs.Common.{◌≡◌, ◌≤◌, string_bytes, subst, arith}
+use Rattle.std.proofs.Common.{string_bytes, subst, arith}
 use Rattle.std.proofs.lemmas.Result.{IfOk-weaker}
 use Rattle.calculus.specs.Built as built
 use Rattle.sheet.specs.Opening.{basis_of}

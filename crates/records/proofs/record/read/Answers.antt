@@ -1,5 +1,5 @@
 use Rattle.std.proofs.Common.{◌≡◌, ◌≤◌, length, get_or, rules}
-use Rattle.records.proofs.Fronts.{taken_apart, two_of, four_of}
+use Rattle.records.proofs.Fronts.{taken_apart, four_of}
 use Rattle.records.proofs.record.read.Goals as goal
 
 pub returns-in-1 : goal.returns-in-1

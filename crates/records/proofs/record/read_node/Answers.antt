@@ -1,5 +1,5 @@
 use Rattle.std.proofs.Common.{◌≡◌, ◌≤◌, length, get_or, rules}
-use Rattle.records.proofs.Fronts.{taken_apart, two_of, four_of}
+use Rattle.records.proofs.Fronts.{taken_apart, two_of}
 use Rattle.records.proofs.record.read_node.Goals as goal
 
 pub returns-in-16 : goal.returns-in-16

@@ -1,4 +1,4 @@
-use Rattle.std.proofs.Common.{◌≡◌, ◌+◌, ◌≤◌, length, sym, ap, ◌∙◌, subst, arith}
+use Rattle.std.proofs.Common.{◌≤◌, length, sym, ap, subst, arith}
 use Rattle.tables.specs.Channels.{entries}
 use Rattle.std.proofs.lemmas.List.{length-map}
 use Rattle.tables.specs.Elements.{elements}

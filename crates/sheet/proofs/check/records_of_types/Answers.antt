@@ -1,4 +1,4 @@
-use Rattle.std.proofs.Common.{◌≡◌, length, sym, ap, ◌∙◌, arith, take_all, rules, below_more}
+use Rattle.std.proofs.Common.{length, ap, ◌∙◌, arith, take_all, rules, below_more}
 use Rattle.std.specs.List.{flat_map}
 use Rattle.tables.specs.Encoding.{type_records}
 use Rattle.sheet.proofs.Checking.{records_more}

@@ -1,4 +1,4 @@
-use Rattle.std.proofs.Common.{◌≡◌, true, sym, refl, subst, arith}
+use Rattle.std.proofs.Common.{◌≡◌, true, refl, subst, arith}
 use Rattle.tables.specs.Range.{type_fits}
 use Rattle.sheet.specs.Filling.{grown_type}
 use Rattle.sheet.proofs.Growing.{when_so}

@@ -1,4 +1,4 @@
-use Rattle.std.proofs.Common.{◌≡◌, sym, ◌∙◌, subst, rules}
+use Rattle.std.proofs.Common.{sym, ◌∙◌, subst}
 use Rattle.sheet.specs.Filling.{totals_of, NoEntryFits}
 use Rattle.sheet.proofs.Growing.{no_entry, other_entry}
 use Rattle.sheet.proofs.fill.entry_in.Goals as goal

@@ -1,4 +1,4 @@
-use Rattle.std.proofs.Common.{◌≡◌, ℕ, sym, ◌∙◌, subst, arith, rules, MatchOption}
+use Rattle.std.proofs.Common.{◌≡◌, ℕ, sym, ◌∙◌, subst, arith, MatchOption}
 use Rattle.sheet.specs.Filling.{NoTypeFits, IsType}
 use Rattle.sheet.proofs.Growing.{no_channel}
 use Rattle.sheet.proofs.fill.type_of.Goals as goal

@@ -1,6 +1,6 @@
-use Rattle.std.proofs.Common.{◌≡◌, ℕ, true, false, Ok, Err, sym, refl, ap, ◌∙◌, subst, arith}
+use Rattle.std.proofs.Common.{◌≡◌, ℕ, Ok, Err, sym, refl, ap, ◌∙◌, subst}
 use Rattle.std.proofs.lemmas.Bool.{false≢true}
-use Rattle.sheet.specs.Opening.{Means, basis_of}
+use Rattle.sheet.specs.Opening.{Means}
 use Rattle.tables.specs.declared.basis.Basis.{Basis}
 use Rattle.sheet.proofs.Readings.{one_way}
 use Rattle.sheet.proofs.opened.open.Goals as goal

@@ -1,4 +1,4 @@
-use Rattle.std.proofs.Common.{[], ◌∷◌, ◌++◌, arith, rules, true-eqb, false-eqb}
+use Rattle.std.proofs.Common.{[], ◌∷◌, ◌++◌, arith, true-eqb, false-eqb}
 use Rattle.records.specs.Records.{codes}
 use Rattle.sheet.proofs.Reading.{one_more, shorter}
 use Rattle.sheet.proofs.Scanning.{ends_cut, ends_wrong, ends_none, ends_well}

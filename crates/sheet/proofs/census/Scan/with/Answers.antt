@@ -1,4 +1,4 @@
-use Rattle.std.proofs.Common.{◌≡◌, ◌+◌, [], ◌∷◌, ◌++◌, None, sym, refl, ap, ◌∙◌, subst, rules}
+use Rattle.std.proofs.Common.{◌+◌, [], ◌∷◌, ◌++◌, None, sym, refl, ap, ◌∙◌, subst}
 use Rattle.sheet.specs.Order.{misplaced, class_of, Seen}
 use Rattle.sheet.proofs.Ordering.{some_of, none_of, seen_stays, seen_found, seen_more}
 use Rattle.sheet.proofs.census.Scan.with.Goals as goal

@@ -1,4 +1,4 @@
-use Rattle.std.proofs.Common.{length, ap, ◌∙◌, subst}
+use Rattle.std.proofs.Common.{ap, ◌∙◌}
 use Rattle.tables.specs.Elements.{last_of}
 use Rattle.tables.proofs.Tabled.{last_given}
 use Rattle.tables.proofs.table.Table.last.Goals as goal

@@ -1,4 +1,4 @@
-use Rattle.std.proofs.Common.{◌<◌, length, arith, rules}
+use Rattle.std.proofs.Common.{rules}
 use Rattle.tables.proofs.Tabled.{pushed}
 use Rattle.tables.proofs.table.Table.push.Goals as goal
 

@@ -1,4 +1,4 @@
-use Rattle.std.proofs.Common.{◌-◌, take, set, ap, ◌∙◌, arith, rules}
+use Rattle.std.proofs.Common.{◌-◌, take, set, ap, ◌∙◌, arith}
 use Rattle.tables.proofs.Tabled.{replaced, with_last_none}
 use Rattle.tables.proofs.table.Table.replace_last.Goals as goal
 
