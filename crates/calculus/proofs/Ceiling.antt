@@ -1,6 +1,6 @@
 -- The ceiling: the amount of a process is at most a join of eight entries a node, so law five covers 1,024 nodes.
 use Rattle.std.proofs.Common.{ℕ, zero, suc, ◌+◌, ◌*◌, ◌≤◌, max, List, [], ◌∷◌, ◌++◌, length, sym, subst, le_trans, le_refl, arith, length-append}
-use Rattle.std.specs.List.{AllByRecursion as All}
+use Rattle.std.specs.List.{AllByRecursion}
 use Rattle.calculus.specs.Countings.{Operations, Laws, Each≤}
 use Rattle.calculus.specs.Joins.{amount_if, join_over}
 use Rattle.calculus.specs.Labels.{Label, map_label}
@@ -38,7 +38,7 @@ module _ (K : Operations) (W : Laws K) where
   }
 
   -- the entries of a type, with arguments put in
-  few_entries : (ys : List Name) (L : Label Name) (n : ℕ) (entries : List Entry) → length entries ≤ n → All (λ e. e.amount ≤ K.largest) entries →
+  few_entries : (ys : List Name) (L : Label Name) (n : ℕ) (entries : List Entry) → length entries ≤ n → AllByRecursion (λ e. e.amount ≤ K.largest) entries →
       Few K n (join_over K entries (λ e. amount_if (map_label (named ys) e.label ≟ L) e.amount))
   few_entries ys L n [] h a = few_none n
   few_entries ys L zero (e ∷ entries) h a = absurd (omega arith)

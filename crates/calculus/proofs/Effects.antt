@@ -1,6 +1,6 @@
 -- Effects: they name only names in scope, and what becomes of them once names have values.
 use Rattle.std.proofs.Common.{◌≡◌, ℕ, zero, suc, ◌≤◌, true, List, [], ◌∷◌, map, length, sym, refl, ap, ◌∙◌, subst, inl, inr, arith}
-use Rattle.std.specs.List.{AllByRecursion as All}
+use Rattle.std.specs.List.{AllByRecursion}
 use Rattle.std.proofs.ByRecursion.{All-weaker, All-map, All-get_or}
 use Rattle.std.proofs.lemmas.List.{get_or-map}
 use Rattle.std.proofs.lemmas.Bool.{both_ways, cases_Bool}
@@ -23,11 +23,11 @@ use Rattle.calculus.proofs.Scopes.{small, label_names, names_new, names_new_one,
 use Rattle.calculus.proofs.Meanings.{carries, item_value, nothing_sent, meaning}
 
 -- the label of a well-formed entry is in scope once arguments in scope are put in
-pub named_in_scope : (Γ : Scope) (n : ℕ) (ys : List Name) → All (λ y. in_scope Γ y ≡ true) ys → n ≡ length ys →
+pub named_in_scope : (Γ : Scope) (n : ℕ) (ys : List Name) → AllByRecursion (λ y. in_scope Γ y ≡ true) ys → n ≡ length ys →
     (e : Entry) → WellFormedEntry Γ (push n outermost) e → label_in_scope Γ (map_label (named ys) e.label) ≡ true
 named_in_scope Γ n ys a q e w =
     all_every (in_scope Γ) (items (map_label (named ys) e.label))
-    (subst (All (λ y. in_scope Γ y ≡ true)) (sym (items_map (named ys) e.label))
+    (subst (AllByRecursion (λ y. in_scope Γ y ≡ true)) (sym (items_map (named ys) e.label))
     (All-map (λ y. in_scope Γ y ≡ true) (named ys) (items e.label) (All-weaker _ _ item (items e.label) w)))
   where
     item : (x : Item) → WellFormedItem Γ (push n outermost) x → in_scope Γ (named ys x) ≡ true
@@ -37,7 +37,7 @@ named_in_scope Γ n ys a q e w =
 
 module _ (K : Operations) (W : Laws K) where
   -- what a channel carries is within the scope
-  pub latent_within : (Γ : Scope) (t : NameType) (ys : List Name) → WellFormed Γ t → Takes t (length ys) → All (λ y. in_scope Γ y ≡ true) ys → Within Γ (latent K t ys)
+  pub latent_within : (Γ : Scope) (t : NameType) (ys : List Name) → WellFormed Γ t → Takes t (length ys) → AllByRecursion (λ y. in_scope Γ y ≡ true) ys → Within Γ (latent K t ys)
   latent_within Γ pure ys w q a L n = refl
   latent_within Γ public ys w q a L n = refl
   latent_within Γ (channel k components entries) ys w q a L n =
@@ -107,7 +107,7 @@ module _ (K : Operations) (W : Laws K) where
 
   -- what a channel carries, once names have values, is what its meaning carries
   pub instance_latent : (Γ : Scope) (ρ : Valuation) (t : NameType) (ys : List Name) (M : Label Value) → WellFormed Γ t → Takes t (length ys) →
-      All (λ y. in_scope Γ y ≡ true) ys → instance ρ (latent K t ys) M ≡ carries (meaning K t ρ) (map ρ ys) M
+      AllByRecursion (λ y. in_scope Γ y ≡ true) ys → instance ρ (latent K t ys) M ≡ carries (meaning K t ρ) (map ρ ys) M
   instance_latent Γ ρ pure ys M w q a = instance_empty ρ M
   instance_latent Γ ρ public ys M w q a = instance_empty ρ M
   instance_latent Γ ρ (channel n components entries) ys M w q a =

@@ -1,7 +1,7 @@
 -- Joins: what the first three laws give for joins of two, over lists and over bags.
 use Rattle.std.proofs.Common.{◌≡◌, ℕ, ◌+◌, ◌≤◌, List, [], ◌∷◌, ◌++◌, map, sym, refl, ap, ◌∙◌, subst, ap₂, le_trans, le_refl, add_comm, zero-add, add-one, arith}
 use mathlib.Core.Path.{fun_ext}
-use Rattle.std.specs.List.{AllByRecursion as All}
+use Rattle.std.specs.List.{AllByRecursion}
 use Rattle.calculus.specs.Countings.{Operations, Laws, joined}
 use Rattle.calculus.specs.Lists.{Removal, here, there}
 use Rattle.calculus.specs.Joins.{amount_if, join_over, rights}
@@ -101,7 +101,7 @@ module _ (K : Operations) (W : Laws K) where
   over_alike xs h = ap (join_over K xs) (fun_ext h)
 
   -- where f and g agree on the members
-  pub over_alike_members : {A : Type 0} (P : A → Type 0) (xs : List A) (f g : A → ℕ) → ((x : A) → P x → f x ≡ g x) → All P xs → join_over K xs f ≡ join_over K xs g
+  pub over_alike_members : {A : Type 0} (P : A → Type 0) (xs : List A) (f g : A → ℕ) → ((x : A) → P x → f x ≡ g x) → AllByRecursion P xs → join_over K xs f ≡ join_over K xs g
   over_alike_members P [] f g h a = refl
   over_alike_members P (x ∷ xs) f g h a = ap₂ K.join (h x a.0) (over_alike_members P xs f g h a.1)
 

@@ -1,6 +1,6 @@
 -- Labels: replacing items, and the universe of all labels of the 64 names.
 use Rattle.std.proofs.Common.{◌≡◌, ℕ, zero, suc, ◌<◌, List, [], ◌∷◌, ◌++◌, map, sym, refl, ◌∙◌, subst, inl, inr, eq-or-lt_of_le, arith}
-use Rattle.std.specs.List.{AllByRecursion as All}
+use Rattle.std.specs.List.{AllByRecursion}
 use Rattle.std.proofs.ByRecursion.{All-weaker}
 use Rattle.calculus.specs.Countings.{Operations, Laws}
 use Rattle.calculus.specs.Lists.{◌∈◌}
@@ -18,7 +18,7 @@ items_map f (three a b c) = refl
 items_map f (four a b c d) = refl
 
 -- functions that agree on the items map alike
-pub map_label_alike : {A B : Type 0} (P : A → Type 0) (f g : A → B) → ((x : A) → P x → f x ≡ g x) → (L : Label A) → All P (items L) →
+pub map_label_alike : {A B : Type 0} (P : A → Type 0) (f g : A → B) → ((x : A) → P x → f x ≡ g x) → (L : Label A) → AllByRecursion P (items L) →
     map_label f L ≡ map_label g L
 map_label_alike P f g h L a = items_determine _ _ (items_map f L ∙ map_alike P f g h (items L) a ∙ sym (items_map g L))
 
@@ -53,7 +53,7 @@ in_numbers (suc n) x h = elim (eq-or-lt_of_le h) [ inl e ↦ inl (omega arith) |
 labels_of : List Name → List (Label Name)
 labels_of xs = gather xs (λ a. one a ∷ gather xs (λ b. two a b ∷ gather xs (λ c. three a b c ∷ gather xs (λ d. four a b c d ∷ []))))
 
-in_labels : (xs : List Name) (L : Label Name) → All (λ x. x ∈ xs) (items L) → L ∈ labels_of xs
+in_labels : (xs : List Name) (L : Label Name) → AllByRecursion (λ x. x ∈ xs) (items L) → L ∈ labels_of xs
 unfolding labels_of
 in_labels xs (one a) m = in_gather xs _ a _ m.0 (inl refl)
 in_labels xs (two a b) m = in_gather xs _ a _ m.0 (inr (in_gather xs _ b _ m.1.0 (inl refl)))
@@ -64,6 +64,6 @@ in_labels xs (four a b c d) m =
     (inr (in_gather xs _ b _ m.1.0 (inr (in_gather xs _ c _ m.1.1.0 (inr (in_gather xs _ d _ m.1.1.1.0 (inl refl)))))))
 
 -- the universe of all labels of the 64 names
-pub all_labels : (K : Operations) (W : Laws K) → Universe K ◌≟◌ (λ L. All (λ x. x < 64) (items L))
+pub all_labels : (K : Operations) (W : Laws K) → Universe K ◌≟◌ (λ L. AllByRecursion (λ x. x < 64) (items L))
 all_labels K W = let u = universe K W ◌≟◌ (labels_of (numbers_below 64)) in
     record { all = u.all; tidy = u.tidy; once = λ L m. u.once L (in_labels (numbers_below 64) L (All-weaker _ _ (λ x l. in_numbers 64 x l) (items L) m)) }

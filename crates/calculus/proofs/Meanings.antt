@@ -1,7 +1,7 @@
 -- Meanings: the type of a value. Once every name has a value, a channel type is a function of the values sent, so that
 -- putting arguments in is application, and equal types have equal meanings.
 use Rattle.std.proofs.Common.{◌≡◌, ℕ, zero, suc, ◌<◌, ◌≤◌, Bool, true, false, cond, ltb, List, [], map, length, get_or, take, sym, refl, ap, ◌∙◌, subst, le_trans, arith, length-take, get_or-take}
-use Rattle.std.specs.List.{AllByRecursion as All}
+use Rattle.std.specs.List.{AllByRecursion}
 use Rattle.std.proofs.lemmas.List.{get_or-map}
 use Rattle.std.proofs.lemmas.Bool.{ltb-true, lt-ltb, cond-true}
 use Rattle.calculus.specs.Countings.{Operations, Laws}
@@ -81,7 +81,7 @@ module _ (K : Operations) (W : Laws K) where
   module _ (Γ : Scope) where
     -- entries whose items have the same values
     entries_alike : (before : ℕ → ℕ) (f g : Item → Value) → ((x : Item) → WellFormedItem Γ before x → f x ≡ g x) → (M : Label Value) (entries : List Entry) →
-        All (WellFormedEntry Γ before) entries →
+        AllByRecursion (WellFormedEntry Γ before) entries →
         join_over K entries (λ e. amount_if (map_label f e.label ≟ M) e.amount) ≡ join_over K entries (λ e. amount_if (map_label g e.label ≟ M) e.amount)
     entries_alike before f g h M entries a =
         over_alike_members K W (WellFormedEntry Γ before) entries _ _

@@ -3,7 +3,7 @@ use Rattle.std.proofs.Common.{◌≡◌, ℕ, suc, ◌<◌, ◌≤◌, true, Lis
 use mathlib.Core.Path.{fun_ext}
 use native.Mathlib.Nat.{le-max_left, le-max_right}
 use lib.ListN.{length-map}
-use Rattle.std.specs.List.{AllByRecursion as All}
+use Rattle.std.specs.List.{AllByRecursion}
 use Rattle.std.proofs.ByRecursion.{All-weaker, All-get_or}
 use Rattle.calculus.specs.Countings.{Operations, Laws}
 use Rattle.calculus.specs.Lists.{extend, Removal}
@@ -22,14 +22,14 @@ use Rattle.calculus.proofs.Threads.{with_type, with_type_old, with_type_new, Has
 
 -- values were made for names, and one with a public type only for a public name
 abbrev pub MadeWell : Assignment → (Value → ValueType) → Value → List (Value × Name) → Type 0
-MadeWell types Θ n made = All (λ m. (m.0 < n) × (Θ m.0 ≡ public_value → types m.1 ≡ public)) made
+MadeWell types Θ n made = AllByRecursion (λ m. (m.0 < n) × (Θ m.0 ≡ public_value → types m.1 ≡ public)) made
 
 module _ (K : Operations) (W : Laws K) (types : Assignment) where
   -- what holds of every configuration that is reached
   pub record Invariant (c : Configuration) : Type 0 where
     -- the types of the values
     pub Θ : Value → ValueType
-    pub typed : All (WellTyped K types Θ c.next) c.threads
+    pub typed : AllByRecursion (WellTyped K types Θ c.next) c.threads
     -- what the threads need still and what was ended is at most what was begun
     pub paid : (M : Label Value) → K.join (join_over K c.threads (cost K W types M)) (rights K (c.ends M)) ≤ rights K (c.begins M)
     pub known_public : (v : Value) → c.known v ≡ true → HasType Θ c.next v public_value
@@ -67,7 +67,7 @@ module _ (K : Operations) (W : Laws K) (types : Assignment) where
         ∙ sym (W.associative (cost K W types M v) (cost K W types M u) (join_over K r (cost K W types M)))))
         (less t r k M _ (subst (λ (x : ℕ). x ≤ cost K W types M t) (sym e) (le_refl _)))
 
-    taken : {t : Thread} {r : List Thread} → Removal t c.threads r → WellTyped K types i.Θ c.next t × All (WellTyped K types i.Θ c.next) r
+    taken : {t : Thread} {r : List Thread} → Removal t c.threads r → WellTyped K types i.Θ c.next t × AllByRecursion (WellTyped K types i.Θ c.next) r
     taken k = removal_all (WellTyped K types i.Θ c.next) k i.typed
 
     begin_paid : {l : Label Name} {p : Process} {ρ : Valuation} {r : List Thread} → Removal (thread (begin l p) ρ) c.threads r → (M : Label Value) →

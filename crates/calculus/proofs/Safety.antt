@@ -1,6 +1,6 @@
 -- Safety: the invariant holds at the start, and a configuration of which it holds is safe.
 use Rattle.std.proofs.Common.{◌≡◌, ℕ, ◌≤◌, List, length, sym, refl, ap, ◌∙◌, subst, le_trans, le_refl}
-use Rattle.std.specs.List.{AllByRecursion as All}
+use Rattle.std.specs.List.{AllByRecursion}
 use Rattle.std.proofs.ByRecursion.{All-weaker}
 use Rattle.calculus.specs.Countings.{Operations, Laws}
 use Rattle.calculus.specs.Lists.{◌∈◌, Removal}
@@ -41,7 +41,7 @@ module _ (K : Operations) (W : Laws K) (types : Assignment) where
       let g = (exact K W types p free env empty).0 a.derives_empty in
       record {
         Θ = λ v. public_value;
-        typed = subst (All (WellTyped K types (λ v. public_value) c.next)) (sym s.alone)
+        typed = subst (AllByRecursion (WellTyped K types (λ v. public_value) c.next)) (sym s.alone)
             (record { scope = free; checked = g.0; environment = env; values = λ x t. (s.values x t, ap (λ u. meaning K u s.valuation) (sym (a.free_public x t))) }, tt);
         paid = λ M. subst (λ l. K.join (join_over K l (cost K W types M)) (rights K (c.ends M)) ≤ rights K (c.begins M)) (sym s.alone)
             (subst (λ (n : ℕ). K.join (K.join (instance K W s.valuation (amount K types p) M) 0) (rights K n) ≤ rights K (c.begins M)) (sym (s.no_end M))

@@ -1,6 +1,6 @@
 -- Scopes: names and labels in a scope that grows, and types that stay well formed in it.
 use Rattle.std.proofs.Common.{◌≡◌, ℕ, ◌<◌, Bool, true, false, cond, eqb, ltb, ◌⊎◌, List, [], ◌∷◌, get_or, take, sym, refl, ap, ◌∙◌, subst, inl, inr}
-use Rattle.std.specs.List.{AllByRecursion as All}
+use Rattle.std.specs.List.{AllByRecursion}
 use Rattle.std.proofs.ByRecursion.{All-weaker}
 use Rattle.std.proofs.lemmas.Bool.{and_parts, and_from, and_cases, both_ways, cases_Bool, ltb-true, lt-ltb, eqb-true, eq-eqb}
 use Rattle.calculus.specs.Lists.{◌∈◌, every, extend}
@@ -21,7 +21,7 @@ pub scoped : (Γ : Scope) (x : Name) → x < 64 → Γ x ≡ true → in_scope �
 scoped Γ x l g = and_from (ltb x 64) (Γ x) (lt-ltb x 64 l) g
 
 -- each name of a label in scope is in scope
-pub label_names : (Γ : Scope) (L : Label Name) → label_in_scope Γ L ≡ true → All (λ x. in_scope Γ x ≡ true) (items L)
+pub label_names : (Γ : Scope) (L : Label Name) → label_in_scope Γ L ≡ true → AllByRecursion (λ x. in_scope Γ x ≡ true) (items L)
 label_names Γ L s = every_all (in_scope Γ) (items L) s
 
 -- a name of an extended scope is new or old, and new and old names are in it
@@ -74,7 +74,7 @@ pub names_new : (zs : List Name) (Γ : Scope) (L : Label Name) → label_in_scop
     (z : Name) × (z ∈ zs) × (z ∈ items L)
 names_new zs Γ L n s = find (items L) n (label_names (extend zs Γ) L s)
   where
-    find : (l : List Name) → every (in_scope Γ) l ≡ false → All (λ x. in_scope (extend zs Γ) x ≡ true) l → (z : Name) × (z ∈ zs) × (z ∈ l)
+    find : (l : List Name) → every (in_scope Γ) l ≡ false → AllByRecursion (λ x. in_scope (extend zs Γ) x ≡ true) l → (z : Name) × (z ∈ zs) × (z ∈ l)
     find [] n a = absurd (both_ways true n refl)
     find (x ∷ l) n a = elim (in_scope_cases zs Γ x a.0) [
       | inl m ↦ (x, m, inl refl)

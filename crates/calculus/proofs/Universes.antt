@@ -2,7 +2,7 @@
 -- With one, amounts may be sent along any function of their labels: only the amount at each label counts.
 use Rattle.std.proofs.Common.{◌≡◌, ℕ, ◌⊎◌, List, [], ◌∷◌, ◌++◌, map, sym, refl, ap, ◌∙◌, subst, ap₂, inl, inr}
 use mathlib.Core.HLevel.{Discrete}
-use Rattle.std.specs.List.{AllByRecursion as All}
+use Rattle.std.specs.List.{AllByRecursion}
 use Rattle.calculus.specs.Countings.{Operations, Laws}
 use Rattle.calculus.specs.Lists.{◌∈◌}
 use Rattle.calculus.specs.Joins.{amount_if, join_over}
@@ -56,7 +56,7 @@ module _ (K : Operations) (W : Laws K) {A : Type 0} (same : Discrete A) where
       ]
 
   -- rows sent along a function of their labels, by way of the amount at each label
-  pub along : {R : Type 0} (rows : List R) (label : R → A) (amount : R → ℕ) (U : List A) → All (λ r. Once K same U (label r)) rows →
+  pub along : {R : Type 0} (rows : List R) (label : R → A) (amount : R → ℕ) (U : List A) → AllByRecursion (λ r. Once K same U (label r)) rows →
       {Q : A → Type 0} (d : (x : A) → Dec (Q x)) →
       join_over K rows (λ r. amount_if (d (label r)) (amount r))
       ≡ join_over K U (λ x. amount_if (d x) (join_over K rows (λ r. amount_if (same (label r) x) (amount r))))
@@ -66,7 +66,7 @@ module _ (K : Operations) (W : Laws K) {A : Type 0} (same : Discrete A) where
       ∙ over_alike K W U (λ x. over_alike K W rows (λ r. if_swap (same (label r) x) (d x) (amount r))
       ∙ sym (over_if K W (d x) rows (λ r. amount_if (same (label r) x) (amount r))))
 
-  all_rows : {R : Type 0} (label : R → A) (P : A → Type 0) (rows : List R) → ((x : A) → x ∈ map label rows → P x) → All (λ r. P (label r)) rows
+  all_rows : {R : Type 0} (label : R → A) (P : A → Type 0) (rows : List R) → ((x : A) → x ∈ map label rows → P x) → AllByRecursion (λ r. P (label r)) rows
   all_rows label P [] h = tt
   all_rows label P (r ∷ rows) h = (h (label r) (inl refl), all_rows label P rows (λ x m. h x (inr m)))
 

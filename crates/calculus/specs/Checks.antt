@@ -1,6 +1,6 @@
 -- The checks: what is asked of a process node by node, with the least amount in place of a derivation.
 use Rattle.std.specs.Prelude.{◌≡◌, true, [], ◌∷◌}
-use Rattle.std.specs.List.{AllByRecursion as All}
+use Rattle.std.specs.List.{AllByRecursion}
 use Rattle.calculus.specs.Countings.{Operations}
 use Rattle.calculus.specs.Lists.{◌∈◌, extend}
 use Rattle.calculus.specs.Labels.{Label, items}
@@ -13,7 +13,7 @@ use Rattle.calculus.specs.Typing.{ChannelUse, WellFormedInTurn}
 -- the process p passes the checks in the scope Γ
 abbrev pub Checks : Operations → Assignment → Scope → Process → Type 0
 Checks K types Γ stop = Unit {0}
-Checks K types Γ (send x ys) = (in_scope Γ x ≡ true) × All (λ y. in_scope Γ y ≡ true) ys × ChannelUse K types x ys
+Checks K types Γ (send x ys) = (in_scope Γ x ≡ true) × AllByRecursion (λ y. in_scope Γ y ≡ true) ys × ChannelUse K types x ys
 Checks K types Γ (receive x zs p) =
     (in_scope Γ x ≡ true) × Fresh zs Γ × ChannelUse K types x zs × WellFormedInTurn types Γ zs
     -- no label that names a received name is left

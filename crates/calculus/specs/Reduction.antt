@@ -1,6 +1,6 @@
 -- The reduction: what a running process may do next, beside an outsider who may use what it knows.
 use Rattle.std.specs.Prelude.{◌≡◌, ℕ, suc, ◌+◌, ◌≤◌, Bool, true, cond, List, [], ◌∷◌, map, length, ◌==◌, ◌≢◌}
-use Rattle.std.specs.List.{AllByRecursion as All}
+use Rattle.std.specs.List.{AllByRecursion}
 use Rattle.calculus.specs.Countings.{Operations}
 use Rattle.calculus.specs.Lists.{extend, Removal}
 use Rattle.calculus.specs.Joins.{amount_if, rights}
@@ -90,7 +90,7 @@ pub data Reduction (K : Operations) (c : Configuration) : Configuration → Type
       Reduction K c (record { threads = r; next = c.next; known = extend (map σ ys) c.known; made = c.made; begins = c.begins; ends = c.ends })
   -- the outsider feeds values that it knows to a receiver on a value that it knows
   feed : {w : Name} {zs : List Name} (vs : List Value) {p : Process} {ρ : Valuation} {r t : List Thread} →
-      Removal (thread (receive w zs p) ρ) c.threads r → c.known (ρ w) ≡ true → length vs ≡ length zs → All (λ v. c.known v ≡ true) vs →
+      Removal (thread (receive w zs p) ρ) c.threads r → c.known (ρ w) ≡ true → length vs ≡ length zs → AllByRecursion (λ v. c.known v ≡ true) vs →
       Removal (thread p (bind zs vs ρ)) t r → Reduction K c (with_threads c t)
   -- the outsider invents a value
   invent : Reduction K c (record { threads = c.threads; next = suc c.next; known = extend (c.next ∷ []) c.known; made = c.made; begins = c.begins; ends = c.ends })

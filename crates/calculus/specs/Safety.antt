@@ -1,6 +1,6 @@
 -- Safety: where a run starts, and when a configuration is safe.
 use Rattle.std.specs.Prelude.{◌≡◌, ◌<◌, ◌≤◌, true, List, [], ◌∷◌, length, ◌≢◌}
-use Rattle.std.specs.List.{AllByRecursion as All}
+use Rattle.std.specs.List.{AllByRecursion}
 use Rattle.calculus.specs.Countings.{Operations}
 use Rattle.calculus.specs.Lists.{◌∈◌, Removal}
 use Rattle.calculus.specs.Joins.{rights}
@@ -17,7 +17,7 @@ pub record Start (free : Scope) (p : Process) (c : Configuration) : Type 0 where
   pub alone : c.threads ≡ thread p valuation ∷ []
   pub values : (x : Name) → in_scope free x ≡ true → valuation x < c.next
   pub known : (v : Value) → c.known v ≡ true → v < c.next
-  pub made : All (λ m. (m.0 < c.next) × (in_scope free m.1 ≡ true)) c.made
+  pub made : AllByRecursion (λ m. (m.0 < c.next) × (in_scope free m.1 ≡ true)) c.made
   pub no_begin : (M : Label Value) → c.begins M ≡ 0
   pub no_end : (M : Label Value) → c.ends M ≡ 0
 

@@ -1,6 +1,6 @@
 -- Scopes: which names may be used where, which names may be bound, and which types are well formed.
 use Rattle.std.specs.Prelude.{◌≡◌, ℕ, zero, suc, ◌<◌, ◌≤◌, Bool, true, false, ◌&&◌, List, [], ◌∷◌, nat_lt}
-use Rattle.std.specs.List.{AllByRecursion as All}
+use Rattle.std.specs.List.{AllByRecursion}
 use Rattle.calculus.specs.Lists.{◌∈◌, every}
 use Rattle.calculus.specs.Labels.{Label, items}
 use Rattle.calculus.specs.Types.{Name, Item, name, index, Entry, NameType, pure, public, channel, Assignment}
@@ -34,7 +34,7 @@ WellFormedItem Γ before (index u p) = p < before u
 
 -- an entry may stand in a type
 abbrev pub WellFormedEntry : Scope → (ℕ → ℕ) → Entry → Type 0
-WellFormedEntry Γ before e = All (WellFormedItem Γ before) (items e.label)
+WellFormedEntry Γ before e = AllByRecursion (WellFormedItem Γ before) (items e.label)
 
 -- a type inside other channel types: it has at most four components; the entries of a channel may speak of all its arguments,
 -- component i of the i arguments before it
@@ -42,7 +42,7 @@ abbrev pub WellFormedInside : Scope → (ℕ → ℕ) → NameType → Type 0
 WellFormedInside Γ before pure = Unit {0}
 WellFormedInside Γ before public = Unit {0}
 WellFormedInside Γ before (channel n components entries) =
-    (n ≤ 4) × All (WellFormedEntry Γ (push n before)) entries × ((i : ℕ) → i < n → WellFormedInside Γ (push i before) (components i))
+    (n ≤ 4) × AllByRecursion (WellFormedEntry Γ (push n before)) entries × ((i : ℕ) → i < n → WellFormedInside Γ (push i before) (components i))
 
 -- no channel lies further out
 abbrev pub outermost : ℕ → ℕ

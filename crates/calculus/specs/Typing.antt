@@ -1,6 +1,6 @@
 -- The typing rules, one constructor a rule, and the judgement that they define.
 use Rattle.std.specs.Prelude.{◌≡◌, ℕ, zero, suc, ◌<◌, true, List, [], ◌∷◌, length, take, slice_index}
-use Rattle.std.specs.List.{AllByRecursion as All}
+use Rattle.std.specs.List.{AllByRecursion}
 use Rattle.calculus.specs.Countings.{Operations}
 use Rattle.calculus.specs.Lists.{◌∈◌, extend}
 use Rattle.calculus.specs.Labels.{Label, items}
@@ -29,7 +29,7 @@ WellFormedInTurn types Γ zs = (i : ℕ) → i < length zs → WellFormed (exten
 pub data Rule (K : Operations) (types : Assignment) (Part : Scope → Process → Effect → Type 0) : Scope → Process → Effect → Type 0 where
   subsumption : {Γ : Scope} {p : Process} {e f : Effect} → Rule K types Part Γ p e → e ⊑ f → Within Γ f → Rule K types Part Γ p f
   stop_rule : {Γ : Scope} → Rule K types Part Γ stop empty
-  send_rule : {Γ : Scope} {x : Name} {ys : List Name} → in_scope Γ x ≡ true → All (λ y. in_scope Γ y ≡ true) ys → ChannelUse K types x ys →
+  send_rule : {Γ : Scope} {x : Name} {ys : List Name} → in_scope Γ x ≡ true → AllByRecursion (λ y. in_scope Γ y ≡ true) ys → ChannelUse K types x ys →
       Rule K types Part Γ (send x ys) (latent K (types x) ys)
   receive_rule : {Γ : Scope} {x : Name} {zs : List Name} {p : Process} {e f : Effect} → in_scope Γ x ≡ true → Fresh zs Γ → ChannelUse K types x zs →
       WellFormedInTurn types Γ zs → Part (extend zs Γ) p f → f ⊑ join_effects K (latent K (types x) zs) e → Within Γ e →

@@ -1,6 +1,6 @@
 -- The amounts of an opened sheet's nodes, by the work rows.
 use Rattle.std.proofs.Common.{◌≡◌, ℕ, zero, suc, ◌+◌, ◌*◌, ◌/◌, ◌%◌, ◌<◌, ◌≤◌, max, List, [], ◌∷◌, map, length, get_or, take, drop, sym, refl, ap, ◌∙◌, subst, ap₂, ⊎_elim, le_trans, arith}
-use Rattle.std.specs.List.{AllByRecursion as All}
+use Rattle.std.specs.List.{AllByRecursion}
 use Rattle.std.proofs.lemmas.List.{get_or_past, get_or-take, get_or-drop, length-take-le, length-drop, length-map}
 use Rattle.std.proofs.lemmas.Bool.{cases_lt}
 use Rattle.calculus.specs.Ceiling.{EntriesSmall}
@@ -49,7 +49,7 @@ put_in ys (Two a b) = refl
 put_in ys (Three a b c) = refl
 put_in ys (Four a b c d) = refl
 
-all_later : (n count : ℕ) (xs : List ℕ) → Inside (suc n) count xs → All (λ c. (n < c) × (c < count)) xs
+all_later : (n count : ℕ) (xs : List ℕ) → Inside (suc n) count xs → AllByRecursion (λ c. (n < c) × (c < count)) xs
 all_later n count [] h = tt
 all_later n count (x ∷ xs) h = ((h.0, h.1), all_later n count xs h.2)
 

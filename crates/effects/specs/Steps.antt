@@ -1,6 +1,6 @@
 -- The amounts of all nodes at one label, from the work rows.
 use Rattle.std.specs.Prelude.{◌≡◌, ℕ, ◌<◌, ◌≤◌, max, List, length}
-use Rattle.std.specs.List.{AllByRecursion as All}
+use Rattle.std.specs.List.{AllByRecursion}
 use Rattle.calculus.specs.Countings.{Operations}
 use Rattle.calculus.specs.Effects.{◌≟◌}
 use Rattle.calculus.specs.Joins.{amount_if, join_over}
@@ -34,7 +34,7 @@ step_by K own child (End l next) = K.join (child next) own
 
 -- the children of node n come after it, and there are such nodes
 abbrev pub LaterChildren : (n count : ℕ) → Node → Type 0
-LaterChildren n count x = All (λ c. (n < c) × (c < count)) (children x)
+LaterChildren n count x = AllByRecursion (λ c. (n < c) × (c < count)) (children x)
 
 -- A has the amounts of all nodes at a label: each comes from the children's and from the node's rows, and none passes the ceiling
 pub record Amounts (K : Operations) (all : List Node) (table : List Row) (L : Label ℕ) (A : ℕ → ℕ) : Type 0 where

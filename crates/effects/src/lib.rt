@@ -1,5 +1,6 @@
 //! The effects of a sheet's nodes: how much of each label's right a node needs, and the first fault of these amounts.
 #![tactic(auto)]
+
 ghost use Rattle.std.specs.Prelude.{◌≡◌, ℕ, ◌<◌, ◌≤◌, length, replicate, MatchResult};
 ghost use Rattle.fault.specs.declared.fault.Fault.TheVariants.{FewRows};
 ghost use Rattle.fault.specs.declared.label.Label.{Label as L};

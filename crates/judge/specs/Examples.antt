@@ -1,6 +1,6 @@
 -- Nine small sheets, each with its verdict by parts with full right 2 and by once.
 use Rattle.std.specs.Prelude.{◌≡◌, ℕ, List, [], ◌∷◌, length, Some, None, Option}
-use Rattle.std.specs.List.{AllByRecursion as All}
+use Rattle.std.specs.List.{AllByRecursion}
 use Rattle.calculus.specs.Built.{parts, once}
 use Rattle.calculus.specs.Countings.{Operations}
 use Rattle.fault.specs.declared.items.Items.TheVariants.{One, Two}
@@ -130,4 +130,4 @@ pub record Right (K : Operations) (t : Tables) (verdict : Option Fault) : Type 0
 
 -- all verdicts are right
 abbrev pub AllRight : Type 0
-AllRight = All (λ e. Right (parts 2) e.sheet e.by_parts × Right once e.sheet e.by_once) nine
+AllRight = AllByRecursion (λ e. Right (parts 2) e.sheet e.by_parts × Right once e.sheet e.by_once) nine

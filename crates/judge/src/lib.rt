@@ -1,5 +1,6 @@
 //! Judging: the verdict on an opened sheet, passed sheets, and what is told of them.
 #![tactic(auto)]
+
 pub mod built;
 pub mod nine;
 pub mod passed;

@@ -1,6 +1,6 @@
 -- What opening established, in the terms of the calculus: how large a process is, and how small the entries are.
 use Rattle.std.proofs.Common.{◌≡◌, ℕ, zero, suc, ◌+◌, ◌-◌, ◌<◌, ◌≤◌, Bool, true, false, not, ◌&&◌, eqb, ltb, leb, List, [], ◌∷◌, map, length, get_or, sym, ap, ◌∙◌, ⊎_elim, arith}
-use Rattle.std.specs.List.{AllByRecursion as All}
+use Rattle.std.specs.List.{AllByRecursion}
 use Rattle.std.proofs.lemmas.List.{length-map, get_or_past}
 use Rattle.std.proofs.lemmas.Bool.{and_parts, and_cases, or_parts, not-false, both_ways, cases_lt, eqb-true, leb-true, lt-ltb, ltb-true}
 use Rattle.calculus.specs.Countings.{Operations}
@@ -69,7 +69,7 @@ passes_at p i (x ∷ xs) (suc k) d l h =
     ap (λ j. p j (get_or xs k d)) z ∙ passes_at p (suc i) xs k d (omega arith) (and_parts (p i x) (all_from p (suc i) xs) h).1
 
 -- entries in range are small
-pub small_entries : (largest names : ℕ) (es : List Entry) → all (entry_fits largest names) es ≡ true → All (λ e. e.amount ≤ largest) (map entry es)
+pub small_entries : (largest names : ℕ) (es : List Entry) → all (entry_fits largest names) es ≡ true → AllByRecursion (λ e. e.amount ≤ largest) (map entry es)
 small_entries largest names [] h = tt
 small_entries largest names (e ∷ es) h =
     let p = and_parts (entry_fits largest names e) (all (entry_fits largest names) es) h in

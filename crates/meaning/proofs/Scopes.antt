@@ -1,6 +1,6 @@
 -- The process of an opened sheet is scoped.
 use Rattle.std.proofs.Common.{◌≡◌, ℕ, zero, suc, ◌+◌, ◌<◌, ◌≤◌, Bool, true, false, not, ◌&&◌, eqb, ltb, List, [], ◌∷◌, length, sym, refl, ap, ◌∙◌, subst, inl, ⊎_elim, arith}
-use Rattle.std.specs.List.{AllByRecursion as All}
+use Rattle.std.specs.List.{AllByRecursion}
 use Rattle.std.proofs.lemmas.List.{get_or_past}
 use Rattle.std.proofs.lemmas.Bool.{false≢true, both_ways, eqb-true, eq-eqb, ltb-true, lt-ltb, or_cases, or_left, or_right, or_parts, and_parts, and_from, cases_lt, not_from_false, not-true}
 use Rattle.fault.specs.Items.{list}
@@ -28,7 +28,7 @@ use Rattle.meaning.proofs.Unfolding.{first, second, process_unfolds}
 use Rattle.meaning.proofs.Scoping.{ScopeOf, lower, use_scoped, bind_fresh, child_scope}
 
 -- a property of every member, as one of the list
-each_member : (P : ℕ → Type 0) (xs : List ℕ) → ((x : ℕ) → member x xs ≡ true → P x) → All P xs
+each_member : (P : ℕ → Type 0) (xs : List ℕ) → ((x : ℕ) → member x xs ≡ true → P x) → AllByRecursion P xs
 each_member P [] h = tt
 each_member P (x ∷ xs) h = (h x (first x xs), each_member P xs (λ y m. h y (or_right (eqb y x) (member y xs) m)))
 

@@ -4,7 +4,7 @@ use Rattle.calculus.specs.Lists.{◌∈◌}
 use Rattle.calculus.specs.Processes.{Process, stop, send, receive, both, copy, new, test, begin, end}
 use Rattle.calculus.specs.Scopes.{Scope, in_scope, label_in_scope, Fresh}
 use Rattle.calculus.specs.Lists as lists
-use Rattle.std.specs.List.{AllByRecursion as All}
+use Rattle.std.specs.List.{AllByRecursion}
 use Rattle.tables.specs.Elements.{elements}
 use Rattle.tables.specs.declared.tables.Node.{Node}
 use Rattle.tables.specs.declared.tables.Tables.{Tables}
@@ -63,7 +63,7 @@ scope_for t x = scope_beside t x (binder_of (elements t.nodes) x)
 -- every name of a process is in scope where it is used, and fresh where it is bound
 abbrev pub Scoped : Scope → Process → Type 0
 Scoped Γ stop = Unit {0}
-Scoped Γ (send x ys) = (in_scope Γ x ≡ true) × All (λ y. in_scope Γ y ≡ true) ys
+Scoped Γ (send x ys) = (in_scope Γ x ≡ true) × AllByRecursion (λ y. in_scope Γ y ≡ true) ys
 Scoped Γ (receive x zs p) = (in_scope Γ x ≡ true) × Fresh zs Γ × Scoped (lists.extend zs Γ) p
 Scoped Γ (both p q) = Scoped Γ p × Scoped Γ q
 Scoped Γ (copy p) = Scoped Γ p

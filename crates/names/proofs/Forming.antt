@@ -1,6 +1,6 @@
 -- Well-formed types, item by item, entry by entry and component by component.
 use Rattle.std.proofs.Common.{◌≡◌, ℕ, zero, suc, ◌+◌, ◌-◌, ◌<◌, ◌≤◌, Bool, true, false, ◌&&◌, ltb, List, [], ◌∷◌, map, length, get_or, drop, replicate, Some, None, Decides, sym, refl, ap, ◌∙◌, subst, ⊎_elim, arith}
-use Rattle.std.specs.List.{AllByRecursion as All}
+use Rattle.std.specs.List.{AllByRecursion}
 use Rattle.std.proofs.ByRecursion.{All-drop, All-map, All-weaker}
 use Rattle.std.proofs.lemmas.List.{get_or_past, get_or-replicate, drop_more, drop_all}
 use Rattle.std.proofs.lemmas.Bool.{false≢true, cases_lt, lt-ltb, le-ltb}
@@ -47,16 +47,16 @@ index_fits Γ before it u p s n e es en =
 
 -- what holds from a place on, one place further; of a member; and at the end
 module _ {X : Type 0} (P : X → Type 0) (xs : List X) (i : ℕ) where
-  pub all_on : (x : X) → Some x ≡ nth xs i → P x → (All P (drop i xs) → All P xs) → All P (drop (i + 1) xs) → All P xs
-  all_on x e h before rest = before (subst (All P) (sym (nth_drop xs i x e)) (h, rest))
+  pub all_on : (x : X) → Some x ≡ nth xs i → P x → (AllByRecursion P (drop i xs) → AllByRecursion P xs) → AllByRecursion P (drop (i + 1) xs) → AllByRecursion P xs
+  all_on x e h before rest = before (subst (AllByRecursion P) (sym (nth_drop xs i x e)) (h, rest))
 
-  pub all_nth : (x : X) → Some x ≡ nth xs i → All P xs → P x
-  all_nth x e h = (subst (All P) (nth_drop xs i x e) (All-drop P i xs h)).0
+  pub all_nth : (x : X) → Some x ≡ nth xs i → AllByRecursion P xs → P x
+  all_nth x e h = (subst (AllByRecursion P) (nth_drop xs i x e) (All-drop P i xs h)).0
 
-  pub all_end : None ≡ nth xs i → (All P (drop i xs) → All P xs) → All P xs
-  all_end e before = before (subst (All P) (sym (nth_past xs i e)) tt)
+  pub all_end : None ≡ nth xs i → (AllByRecursion P (drop i xs) → AllByRecursion P xs) → AllByRecursion P xs
+  all_end e before = before (subst (AllByRecursion P) (sym (nth_past xs i e)) tt)
 
-all_unmap : {X Y : Type 0} (P : X → Type 0) (f : Y → X) (ys : List Y) → All P (map f ys) → All (λ y. P (f y)) ys
+all_unmap : {X Y : Type 0} (P : X → Type 0) (f : Y → X) (ys : List Y) → AllByRecursion P (map f ys) → AllByRecursion (λ y. P (f y)) ys
 all_unmap P f [] h = tt
 all_unmap P f (y ∷ ys) h = (h.0, all_unmap P f ys h.1)
 
@@ -67,13 +67,13 @@ label_items f (Three a b c) = refl
 label_items f (Four a b c d) = refl
 
 -- an entry by the items of its label
-pub entry_by_items : (Γ : Scope) (before : ℕ → ℕ) (e : Entry) (r : Bool) → Decides r (All (λ i. WellFormedItem Γ before (item i)) (list e.label.items)) → Decides r (WellFormedEntry Γ before (entry e))
+pub entry_by_items : (Γ : Scope) (before : ℕ → ℕ) (e : Entry) (r : Bool) → Decides r (AllByRecursion (λ i. WellFormedItem Γ before (item i)) (list e.label.items)) → Decides r (WellFormedEntry Γ before (entry e))
 entry_by_items Γ before e r d =
     let P = WellFormedItem Γ before in
     let xs = list e.label.items in
     Decides-like r
-    (λ h. subst (All P) (sym (label_items item e.label.items)) (All-map P item xs h))
-    (λ h. all_unmap P item xs (subst (All P) (label_items item e.label.items) h))
+    (λ h. subst (AllByRecursion P) (sym (label_items item e.label.items)) (All-map P item xs h))
+    (λ h. all_unmap P item xs (subst (AllByRecursion P) (label_items item e.label.items) h))
     d
 
 -- a type of the tables, by its entries and its components
@@ -81,7 +81,7 @@ abbrev pub PartsFit : Scope → (ℕ → ℕ) → (ℕ → calculus.NameType) �
 PartsFit Γ before f n cs = (i : ℕ) → i < n → WellFormedInside Γ (push i before) (f (get_or cs i 0))
 
 pub form_fits : (Γ : Scope) (before : ℕ → ℕ) (f : ℕ → calculus.NameType) (x : SheetType)
-    → All (λ e. WellFormedEntry Γ (push (length (components x)) before) (entry e)) (entries x)
+    → AllByRecursion (λ e. WellFormedEntry Γ (push (length (components x)) before) (entry e)) (entries x)
     → PartsFit Γ before f (length (components x)) (components x)
     → WellFormedInside Γ before (form f x)
 form_fits Γ before f Pure es cs = tt
@@ -90,7 +90,7 @@ form_fits Γ before f (Channel c) es cs =
     (parts_few c.components, All-map (WellFormedEntry Γ (push (length (components (Channel c))) before)) entry (entries (Channel c)) es, cs)
 
 pub form_entries : (Γ : Scope) (before : ℕ → ℕ) (f : ℕ → calculus.NameType) (x : SheetType) → WellFormedInside Γ before (form f x)
-    → All (λ e. WellFormedEntry Γ (push (length (components x)) before) (entry e)) (entries x)
+    → AllByRecursion (λ e. WellFormedEntry Γ (push (length (components x)) before) (entry e)) (entries x)
 form_entries Γ before f Pure h = tt
 form_entries Γ before f Public h = tt
 form_entries Γ before f (Channel c) h = all_unmap (WellFormedEntry Γ (push (length (components (Channel c))) before)) entry (entries (Channel c)) h.1
@@ -138,11 +138,11 @@ items_few (Four a b c d) = omega arith
 
 -- the same over a slice that is gone through
 module _ {X : Type 0} (P : X → Type 0) (xs : List X) (i : ℕ) where
-  pub all_further : (d : X) → i < length xs → P (get_or xs i d) → (All P (drop i xs) → All P xs) → All P (drop (i + 1) xs) → All P xs
-  all_further d l h before rest = before (subst (All P) (sym (drop_more xs i d l)) (h, rest))
+  pub all_further : (d : X) → i < length xs → P (get_or xs i d) → (AllByRecursion P (drop i xs) → AllByRecursion P xs) → AllByRecursion P (drop (i + 1) xs) → AllByRecursion P xs
+  all_further d l h before rest = before (subst (AllByRecursion P) (sym (drop_more xs i d l)) (h, rest))
 
-  pub all_over : length xs ≤ i → (All P (drop i xs) → All P xs) → All P xs
-  all_over l before = before (subst (All P) (sym (drop_all i xs l)) tt)
+  pub all_over : length xs ≤ i → (AllByRecursion P (drop i xs) → AllByRecursion P xs) → AllByRecursion P xs
+  all_over l before = before (subst (AllByRecursion P) (sym (drop_all i xs l)) tt)
 
 nth_getD : (xs : List ℕ) (i x : ℕ) → Some x ≡ nth xs i → get_or xs i 0 ≡ x
 nth_getD [] i x e = let z : ◌≡◌ {A = ℕ} 0 1 = cc in absurd (omega arith)
@@ -183,13 +183,13 @@ module _ (types : List SheetType) (levels at : ℕ) (some : levels ≡ 0 → ⊥
 
   module _ (Γ : Scope) (before : ℕ → ℕ) where
     -- a type is well formed where its entries and its components are
-    pub formed : All (λ e. WellFormedEntry Γ (push (length (components (type_at types at))) before) (entry e)) (entries (type_at types at))
+    pub formed : AllByRecursion (λ e. WellFormedEntry Γ (push (length (components (type_at types at))) before) (entry e)) (entries (type_at types at))
         → PartsFit Γ before (type_within types (levels - 1)) (length (components (type_at types at))) (components (type_at types at))
         → WellFormedInside Γ before (type_within types levels at)
     formed es cs =
         subst (WellFormedInside Γ before) (sym within_step) (form_fits Γ before (type_within types (levels - 1)) (type_at types at) es cs)
 
-    pub formed_entries : WellFormedInside Γ before (type_within types levels at) → All (λ e. WellFormedEntry Γ (push (length (components (type_at types at))) before) (entry e)) (entries (type_at types at))
+    pub formed_entries : WellFormedInside Γ before (type_within types levels at) → AllByRecursion (λ e. WellFormedEntry Γ (push (length (components (type_at types at))) before) (entry e)) (entries (type_at types at))
     formed_entries h =
         form_entries Γ before (type_within types (levels - 1)) (type_at types at) (subst (WellFormedInside Γ before) within_step h)
 
@@ -204,10 +204,10 @@ formed_none Γ before types levels at e = subst (λ d. WellFormedInside Γ befor
 
 -- entries and components as they are tested: with counts in an array
 pub entries_tested : (Γ : Scope) (b d : ℕ → ℕ) (n m : ℕ) (es fs : List Entry) (r : Bool) → ((u : ℕ) → b u ≡ push n d u) → n ≡ m → es ≡ fs
-    → Decides r (All (λ e. WellFormedEntry Γ b (entry e)) es) → Decides r (All (λ e. WellFormedEntry Γ (push m d) (entry e)) fs)
+    → Decides r (AllByRecursion (λ e. WellFormedEntry Γ b (entry e)) es) → Decides r (AllByRecursion (λ e. WellFormedEntry Γ (push m d) (entry e)) fs)
 entries_tested Γ b d n m es fs r s en ee h =
     let same : (u : ℕ) → b u ≡ push m d u = λ u. s u ∙ ap (λ k. push k d u) en in
-    subst (λ l. Decides r (All (λ e. WellFormedEntry Γ (push m d) (entry e)) l)) ee
+    subst (λ l. Decides r (AllByRecursion (λ e. WellFormedEntry Γ (push m d) (entry e)) l)) ee
     (Decides-like r
     (All-weaker _ _ (λ e. same_entry Γ Γ (λ y. refl) b (push m d) same (entry e)) es)
     (All-weaker _ _ (λ e. same_entry Γ Γ (λ y. refl) (push m d) b (λ u. sym (same u)) (entry e)) es)

@@ -1,6 +1,6 @@
 //! Types that are well formed in a scope.
 ghost use Rattle.std.specs.Prelude.{◌≡◌, ℕ, ◌<◌, length, Decides};
-ghost use Rattle.std.specs.List.{AllByRecursion as All};
+ghost use Rattle.std.specs.List.{AllByRecursion};
 ghost use Rattle.calculus.specs.Scopes.{push, WellFormedItem, WellFormedEntry, WellFormedInside, WellFormed};
 ghost use Rattle.tables.specs.Elements.{elements};
 ghost use Rattle.meaning.specs.Failures.{FirstFailure};
@@ -80,7 +80,7 @@ fn entry_fits(entry: &Entry, scope: &[bool], counts: &[usize]) -> bool
 /// Whether each of the entries may stand in a type.
 fn entries_fit(entries: &[Entry], scope: &[bool], counts: &[usize]) -> bool
     requires { length scope.now ≡ 64 }
-    ensures { Decides result (All (λ e. WellFormedEntry (marked scope.now) (outer counts.now) (meant.entry e)) entries.now) }
+    ensures { Decides result (AllByRecursion (λ e. WellFormedEntry (marked scope.now) (outer counts.now) (meant.entry e)) entries.now) }
 {
     for entry in entries {
         if !entry_fits(entry, scope, counts) {

@@ -1,6 +1,7 @@
 //! Which names of an opened sheet are not as they should be: a free name that is not public, or a name whose type is
 //! not well formed in its scope.
 #![tactic(auto)]
+
 ghost use Rattle.std.specs.Prelude.{◌≡◌, true, length};
 ghost use Rattle.calculus.specs.Scopes.{in_scope, WellFormed};
 ghost use Rattle.calculus.specs.Types.{public};

@@ -1,6 +1,6 @@
 -- Labels compared as the tables have them, and effects compared at the labels of their own entries.
 use Rattle.std.proofs.Common.{◌≡◌, ℕ, zero, suc, ◌+◌, ◌-◌, ◌<◌, ◌≤◌, Bool, true, false, ◌&&◌, leb, ◌⊎◌, List, [], ◌∷◌, map, length, get_or, take, drop, sym, refl, ap, ◌∙◌, subst, ap₂, inl, inr, ⊎_elim, arith}
-use Rattle.std.specs.List.{AllByRecursion as All}
+use Rattle.std.specs.List.{AllByRecursion}
 use Rattle.std.proofs.ByRecursion.{All-drop, All-get_or, All-push}
 use Rattle.std.proofs.lemmas.List.{length-map, length-drop, drop_more, drop-map, get_or-map, map_more}
 use Rattle.std.proofs.lemmas.Bool.{and_parts, leb-true}
@@ -93,7 +93,7 @@ module _ (K : Operations) (W : Laws K) where
   at_fits L es few small = W.bounded (map (amount_for L) es) (omega (arith, length-map es (amount_for L))) (each_small L es small)
 
   -- a label is that of an entry, or gets nothing
-  found_or_none : (P : Label calculus.Item → Type 0) (es : List calculus.Entry) → All (λ e. P e.label) es → (L : Label calculus.Item) → P L ⊎ (entries_at K es L ≡ 0)
+  found_or_none : (P : Label calculus.Item → Type 0) (es : List calculus.Entry) → AllByRecursion (λ e. P e.label) es → (L : Label calculus.Item) → P L ⊎ (entries_at K es L ≡ 0)
   found_or_none P [] h L = inr refl
   found_or_none P (e ∷ es) h L = by_first (decide (label_test item_test) e.label L) (found_or_none P es h.1 L)
     where
@@ -103,12 +103,12 @@ module _ (K : Operations) (W : Laws K) where
           ⊎_elim inl (λ z. inr (join_zero K W _ _ (if_no (decide (label_test item_test) e.label L) e.amount other) z)) rest
 
   -- effects that agree at their own labels agree at every label
-  pub agree_everywhere : (a b : List calculus.Entry) → All (SameAmounts K a b) a → All (SameAmounts K a b) b → SameEffects K a b
+  pub agree_everywhere : (a b : List calculus.Entry) → AllByRecursion (SameAmounts K a b) a → AllByRecursion (SameAmounts K a b) b → SameEffects K a b
   agree_everywhere a b p q L =
       let P : Label calculus.Item → Type 0 = λ M. entries_at K a M ≡ entries_at K b M in
       ⊎_elim (λ h. h) (λ z. ⊎_elim (λ h. h) (λ w. z ∙ sym w) (found_or_none P b q L)) (found_or_none P a p L)
 
-  pub agree_at : (a b es : List calculus.Entry) → SameEffects K a b → All (SameAmounts K a b) es
+  pub agree_at : (a b es : List calculus.Entry) → SameEffects K a b → AllByRecursion (SameAmounts K a b) es
   agree_at a b [] h = tt
   agree_at a b (e ∷ es) h = (h e.label, agree_at a b es h)
 
@@ -126,9 +126,9 @@ module _ (K : Operations) (W : Laws K) where
       (subst (Small K) (drop-map entry k es) (All-drop (λ (e : calculus.Entry). e.amount ≤ K.largest) k (map entry es) small))
 
 -- what holds of each entry's meaning, at one entry, and up to one more
-pub meant_at : (P : calculus.Entry → Type 0) (es : List Entry) (i : ℕ) (d : Entry) → i < length es → All P (map entry es) → P (entry (get_or es i d))
+pub meant_at : (P : calculus.Entry → Type 0) (es : List Entry) (i : ℕ) (d : Entry) → i < length es → AllByRecursion P (map entry es) → P (entry (get_or es i d))
 meant_at P es i d l h =
     subst P (get_or-map entry es i d (entry d) l) (All-get_or P (map entry es) i (entry d) (omega (arith, length-map es entry)) h)
 
-pub meant_more : (P : calculus.Entry → Type 0) (es : List Entry) (i : ℕ) (d : Entry) → i < length es → All P (map entry (take i es)) → P (entry (get_or es i d)) → All P (map entry (take (i + 1) es))
-meant_more P es i d l h p = subst (All P) (sym (map_more entry es i d l)) (All-push P (map entry (take i es)) (entry (get_or es i d)) h p)
+pub meant_more : (P : calculus.Entry → Type 0) (es : List Entry) (i : ℕ) (d : Entry) → i < length es → AllByRecursion P (map entry (take i es)) → P (entry (get_or es i d)) → AllByRecursion P (map entry (take (i + 1) es))
+meant_more P es i d l h p = subst (AllByRecursion P) (sym (map_more entry es i d l)) (All-push P (map entry (take i es)) (entry (get_or es i d)) h p)

@@ -1,6 +1,6 @@
 -- The walk over pairs of types: what waits, how long it may go on, and what it shows.
 use Rattle.std.proofs.Common.{◌≡◌, ℕ, zero, suc, ◌+◌, ◌-◌, ◌*◌, ◌<◌, ◌≤◌, Bool, true, false, List, [], ◌∷◌, length, get_or, sym, refl, ap, ◌∙◌, subst, ap₂, ⊎_elim, mul-le-mul_right, suc-mul, add-one, arith}
-use Rattle.std.specs.List.{AllByRecursion as All}
+use Rattle.std.specs.List.{AllByRecursion}
 use Rattle.std.proofs.lemmas.Bool.{cases_order, cases_lt, and_parts, false≢true}
 use Rattle.calculus.specs.Countings.{Operations}
 use Rattle.tables.specs.Channels.{components}
@@ -49,15 +49,15 @@ module _ (ls rs : List ℕ) (level : ℕ) where
       let e : after ≡ stacked ls rs level (suc n) ps = cc in
       e ∙ ap (λ k. stacked ls rs level k ps) (sym (add-one n))
 
-  pub all_stacked : (P : Pair → Type 0) (n : ℕ) (ps : List Pair) → ((i : ℕ) → i < n → P (pair_at ls rs level i)) → All P ps → All P (stacked ls rs level n ps)
+  pub all_stacked : (P : Pair → Type 0) (n : ℕ) (ps : List Pair) → ((i : ℕ) → i < n → P (pair_at ls rs level i)) → AllByRecursion P ps → AllByRecursion P (stacked ls rs level n ps)
   all_stacked P zero ps h a = a
   all_stacked P (suc n) ps h a = (h n (omega arith), all_stacked P n ps (λ i l. h i (omega arith)) a)
 
-  pub all_under : (P : Pair → Type 0) (n : ℕ) (ps : List Pair) → All P (stacked ls rs level n ps) → All P ps
+  pub all_under : (P : Pair → Type 0) (n : ℕ) (ps : List Pair) → AllByRecursion P (stacked ls rs level n ps) → AllByRecursion P ps
   all_under P zero ps a = a
   all_under P (suc n) ps a = all_under P n ps a.1
 
-  pub all_on_top : (P : Pair → Type 0) (n : ℕ) (ps : List Pair) → All P (stacked ls rs level n ps) → (i : ℕ) → i < n → P (pair_at ls rs level i)
+  pub all_on_top : (P : Pair → Type 0) (n : ℕ) (ps : List Pair) → AllByRecursion P (stacked ls rs level n ps) → (i : ℕ) → i < n → P (pair_at ls rs level i)
   all_on_top P zero ps a i l = absurd (omega arith)
   all_on_top P (suc n) ps a i l = ⊎_elim (λ e. subst (λ j. P (pair_at ls rs level j)) (sym e) a.0) (λ o. all_on_top P n ps a.1 i (⊎_elim (λ q. q) (λ q. absurd (omega arith)) o)) (cases_order i n)
 
@@ -147,11 +147,11 @@ module _ (K : Operations) (types : List SheetType) (ys : List ℕ) (p : Pair) (r
       omega arith
 
   -- all that waited is the same just where all that waits is
-  pub turn_same : All (SamePair K types ys) (p ∷ rest) → All (SamePair K types ys) next
+  pub turn_same : AllByRecursion (SamePair K types ys) (p ∷ rest) → AllByRecursion (SamePair K types ys) next
   turn_same All-same =
       all_stacked _ _ _ (SamePair K types ys) (length (components (type_at types p.left))) rest (pair_components K types ys p ready.0 ready.1 All-same.0) All-same.1
 
-  pub turn_back : SameHead K ys p.level (type_at types p.left) (type_at types p.right) → All (SamePair K types ys) next → All (SamePair K types ys) (p ∷ rest)
+  pub turn_back : SameHead K ys p.level (type_at types p.left) (type_at types p.right) → AllByRecursion (SamePair K types ys) next → AllByRecursion (SamePair K types ys) (p ∷ rest)
   turn_back head All-same =
       let n = length (components (type_at types p.left)) in (
         pair_whole K types ys p ready.0 ready.1 head

@@ -1,6 +1,6 @@
 -- Entries as an opened sheet has them, so that their amounts can be joined and their labels compared.
 use Rattle.std.specs.Prelude.{◌≡◌, ℕ, ◌≤◌, Bool, true, List, map, length, nat_le}
-use Rattle.std.specs.List.{AllByRecursion as All}
+use Rattle.std.specs.List.{AllByRecursion}
 use Rattle.calculus.specs.Countings.{Operations}
 use Rattle.calculus.specs.Equality.{decide}
 use Rattle.calculus.specs.Joins.{amount_if}
@@ -25,11 +25,11 @@ placed_label l = all placed (list l.items)
 
 -- each index of the entries' labels has a position
 abbrev pub Placed : List Entry → Type 0
-Placed es = All (λ e. placed_label e.label ≡ true) es
+Placed es = AllByRecursion (λ e. placed_label e.label ≡ true) es
 
 -- no amount is larger than an entry's may be
 abbrev pub Small : Operations → List calculus.Entry → Type 0
-Small K es = All (λ e. e.amount ≤ K.largest) es
+Small K es = AllByRecursion (λ e. e.amount ≤ K.largest) es
 
 -- the entries of a type: few, small, and with positions
 pub record SoundEntries (K : Operations) (es : List Entry) : Type 0 where

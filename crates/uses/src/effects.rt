@@ -1,6 +1,6 @@
 //! Effects compared: the amounts that two lists of entries give every label.
 ghost use Rattle.std.specs.Prelude.{◌≡◌, ◌≤◌, true, map, Decides};
-ghost use Rattle.std.specs.List.{AllByRecursion as All};
+ghost use Rattle.std.specs.List.{AllByRecursion};
 ghost use Rattle.calculus.specs.Types.{entries_at};
 ghost use Rattle.meaning.specs.Labels.{label_of};
 ghost use Rattle.meaning.specs.Types as meant;
@@ -58,7 +58,7 @@ fn agree_on<C: Counting>(counting: &C, some: &[Entry], left: &[Entry], right: &[
     requires some { SoundEntries (C.Counting.operations counting.now) some.now }
     requires left { SoundEntries (C.Counting.operations counting.now) left.now }
     requires right { SoundEntries (C.Counting.operations counting.now) right.now }
-    ensures { Decides result (All (SameAmounts (C.Counting.operations counting.now) (map meant.entry left.now) (map meant.entry right.now)) (map meant.entry some.now)) }
+    ensures { Decides result (AllByRecursion (SameAmounts (C.Counting.operations counting.now) (map meant.entry left.now) (map meant.entry right.now)) (map meant.entry some.now)) }
 {
     for entry in some {
         let label = &entry.label;

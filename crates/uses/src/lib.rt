@@ -1,5 +1,6 @@
 //! How the nodes of an opened sheet use their channels: with the right count of names, each of the required type.
 #![tactic(auto)]
+
 ghost use Rattle.std.specs.Prelude.{length};
 ghost use Rattle.tables.specs.Elements.{elements};
 ghost use Rattle.sheet.specs.Tree.{node_at};

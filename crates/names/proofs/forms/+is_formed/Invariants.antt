@@ -1,5 +1,5 @@
 use Rattle.std.proofs.Common.{◌-◌, ◌≤◌, length}
-use Rattle.std.specs.List.{AllByRecursion as All}
+use Rattle.std.specs.List.{AllByRecursion}
 use Rattle.calculus.specs.Scopes.{push, WellFormedEntry}
 use Rattle.tables.specs.Channels.{components, entries}
 use Rattle.tables.specs.Encoding.{parts}
@@ -16,7 +16,7 @@ decreases-is_formed l = l.levels
 abbrev pub invariant-loop-component : goal.invariant-loop-component
 invariant-loop-component l =
     (l.place ≤ 4)
-    × All (λ e. WellFormedEntry (marked l.scope) (push (length (components (type_at l.types l.at))) (outer l.counts)) (meant.entry e)) (entries (type_at l.types l.at))
+    × AllByRecursion (λ e. WellFormedEntry (marked l.scope) (push (length (components (type_at l.types l.at))) (outer l.counts)) (meant.entry e)) (entries (type_at l.types l.at))
     × PartsFit (marked l.scope) (outer l.counts) (meant.type_within l.types (l.levels - 1)) l.place (components (type_at l.types l.at))
 
 abbrev pub decreases-loop-component : goal.decreases-loop-component

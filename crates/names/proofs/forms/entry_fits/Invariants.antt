@@ -1,5 +1,5 @@
 use Rattle.std.proofs.Common.{◌-◌, ◌≤◌, length, drop}
-use Rattle.std.specs.List.{AllByRecursion as All}
+use Rattle.std.specs.List.{AllByRecursion}
 use Rattle.fault.specs.Items.{list}
 use Rattle.calculus.specs.Scopes.{WellFormedItem}
 use Rattle.meaning.specs.Types as meant
@@ -10,8 +10,8 @@ use Rattle.names.proofs.forms.entry_fits.Given as goal
 abbrev pub invariant-loop-item : goal.invariant-loop-item
 invariant-loop-item l =
     (l.place ≤ 4)
-    × (All (λ i. WellFormedItem (marked l.scope) (outer l.counts) (meant.item i)) (drop l.place (list l.items))
-    → All (λ i. WellFormedItem (marked l.scope) (outer l.counts) (meant.item i)) (list l.items))
+    × (AllByRecursion (λ i. WellFormedItem (marked l.scope) (outer l.counts) (meant.item i)) (drop l.place (list l.items))
+    → AllByRecursion (λ i. WellFormedItem (marked l.scope) (outer l.counts) (meant.item i)) (list l.items))
 
 abbrev pub decreases-loop-item : goal.decreases-loop-item
 decreases-loop-item l = length (list l.items) - l.place

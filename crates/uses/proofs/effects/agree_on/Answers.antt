@@ -1,5 +1,5 @@
 use Rattle.std.proofs.Common.{◌≡◌, true, map, sym, ap, ◌∙◌, subst}
-use Rattle.std.specs.List.{AllByRecursion as All}
+use Rattle.std.specs.List.{AllByRecursion}
 use Rattle.std.proofs.ByRecursion.{All-get_or}
 use Rattle.std.proofs.lemmas.List.{take_all}
 use Rattle.tables.specs.declared.tables.Entry.{Entry}
@@ -47,4 +47,4 @@ returns g c =
     let a = map entry c.args.left.now in
     let b = map entry c.args.right.now in
     decided
-    (subst (λ xs. All (SameAmounts K a b) (map entry xs)) (take_all c.loop-entry.entry-index c.args.some.now c.loop-entry-test.false) c.loop-entry.invariant)
+    (subst (λ xs. AllByRecursion (SameAmounts K a b) (map entry xs)) (take_all c.loop-entry.entry-index c.args.some.now c.loop-entry-test.false) c.loop-entry.invariant)

@@ -1,5 +1,5 @@
 use Rattle.std.proofs.Common.{◌<◌, List, sym, refl, ap, ◌∙◌, subst, arith}
-use Rattle.std.specs.List.{AllByRecursion as All}
+use Rattle.std.specs.List.{AllByRecursion}
 use Rattle.tables.specs.Channels.{components}
 use Rattle.tables.specs.Encoding.{parts}
 use Rattle.sheet.specs.Types.{type_at}
@@ -24,7 +24,7 @@ returns-then-not-same_head g c =
     let ready = subst (Ready types) top c.loop-pair.invariant.0 in
     undecided
     (λ same.
-    let All-same = subst (All (SamePair K types ys)) top (c.loop-pair.invariant.2 same) in
+    let All-same = subst (AllByRecursion (SamePair K types ys)) top (c.loop-pair.invariant.2 same) in
     let head = pair_head K types ys p ready.0 ready.1 All-same.0 in
     refuted c.if-not-same_head.ensures
     (subst (λ x. SameHead K ys p.level c.type_at-a.result x) (sym c.type_at-b.ensures)
@@ -59,9 +59,9 @@ loop-pair-preserved g c =
       subst (Ready types) (sym after) (turn_ready K types ys p rest ready head),
       λ All-same.
           c.loop-pair.invariant.1
-          (subst (All (SamePair K types ys)) (sym top) (turn_back K types ys p rest ready head (subst (All (SamePair K types ys)) after All-same))),
+          (subst (AllByRecursion (SamePair K types ys)) (sym top) (turn_back K types ys p rest ready head (subst (AllByRecursion (SamePair K types ys)) after All-same))),
       λ same.
-          subst (All (SamePair K types ys)) (sym after) (turn_same K types ys p rest ready (subst (All (SamePair K types ys)) top (c.loop-pair.invariant.2 same))),
+          subst (AllByRecursion (SamePair K types ys)) (sym after) (turn_same K types ys p rest ready (subst (AllByRecursion (SamePair K types ys)) top (c.loop-pair.invariant.2 same))),
     )
 
 pub push_components-requires : goal.push_components-requires
