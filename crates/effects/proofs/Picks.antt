@@ -1,10 +1,9 @@
 -- The first fault among labels: one label more.
-use Rattle.std.proofs.Common.{◌≡◌, ℕ, zero, suc, ◌<◌, ◌≤◌, Bool, true, false, cond, not, ◌&&◌, ◌||◌, eqb, ltb, ◌⊎◌, List, [], ◌∷◌, length, get_or, Some, None, Option, sym, refl, ap, ◌∙◌, subst, inl, inr, ⊎_elim, arith}
+use Rattle.std.proofs.Common.{◌≡◌, ℕ, ◌<◌, ◌≤◌, Bool, true, false, cond, not, eqb, List, ◌∷◌, length, Some, None, Option, sym, refl, ap, ◌∙◌, subst, inl, inr, ⊎_elim, arith}
 use mathlib.Core.Path.{fun_ext}
 use Rattle.std.proofs.lemmas.List.{get_or_past}
 use Rattle.std.proofs.lemmas.Bool.{cases_Bool, cases_order, and_parts, and_cases, and_right, or_cases, or_parts, eqb-true, eqb-false, ltb-true, ltb-false, both_ways}
 use Rattle.calculus.specs.Countings.{Operations}
-use Rattle.calculus.specs.Lists.{◌∈◌}
 use Rattle.fault.specs.declared.label.Label.{Label}
 use Rattle.tables.specs.declared.tables.Node.{Node}
 use Rattle.tables.specs.declared.tables.Node.TheVariants.{Stop}
@@ -12,7 +11,6 @@ use Rattle.sheet.specs.Tree.{node_at}
 use Rattle.effects.specs.Found.{label_before, bad, fails, node_of, rank, sooner, pick, Highest, Later, FirstIn}
 use Rattle.effects.specs.declared.found.Found.{Found}
 use Rattle.effects.specs.declared.found.Place.{Place}
-use Rattle.effects.specs.declared.found.Place.TheVariants.{Root, At}
 use Rattle.effects.proofs.Orders.{label_transitive, label_irreflexive}
 
 -- past the last node nothing is at fault

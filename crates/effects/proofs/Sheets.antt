@@ -1,14 +1,14 @@
 -- The amounts of an opened sheet's nodes, by the work rows.
-use Rattle.std.proofs.Common.{◌≡◌, ℕ, zero, suc, ◌+◌, ◌*◌, ◌/◌, ◌%◌, ◌<◌, ◌≤◌, max, List, [], ◌∷◌, map, length, get_or, take, drop, sym, refl, ap, ◌∙◌, subst, ap₂, ⊎_elim, le_trans, arith}
+use Rattle.std.proofs.Common.{◌≡◌, ℕ, suc, ◌+◌, ◌*◌, ◌/◌, ◌%◌, ◌<◌, ◌≤◌, List, [], ◌∷◌, map, length, get_or, drop, sym, refl, ap, ◌∙◌, subst, ap₂, ⊎_elim, le_trans, arith}
 use Rattle.std.specs.List.{AllByRecursion}
 use Rattle.std.proofs.lemmas.List.{get_or_past, get_or-take, get_or-drop, length-take-le, length-drop, length-map}
 use Rattle.std.proofs.lemmas.Bool.{cases_lt}
 use Rattle.calculus.specs.Ceiling.{EntriesSmall}
 use Rattle.calculus.specs.Countings.{Operations, Laws}
-use Rattle.calculus.specs.Effects.{◌≟◌, latent, full_right, named, amount}
+use Rattle.calculus.specs.Effects.{◌≟◌, latent, full_right, named}
 use Rattle.calculus.specs.Joins.{amount_if, join_over}
 use Rattle.calculus.specs.Labels as calculus
-use Rattle.calculus.specs.Processes.{send, stop, size}
+use Rattle.calculus.specs.Processes.{send, size}
 use Rattle.calculus.specs.Types as types
 use Rattle.calculus.proofs.Ceiling.{amounts_fit}
 use Rattle.calculus.proofs.Joins.{if_zero, if_at_most, over_map, over_alike}
@@ -39,7 +39,7 @@ use Rattle.meaning.proofs.Sizes.{Inside}
 use Rattle.meaning.proofs.Steps.{by_steps}
 use Rattle.meaning.proofs.Unfolding.{process_unfolds}
 use Rattle.effects.specs.Rows.{blank, map_items, entry_row, carried, rows_of, Filled, places}
-use Rattle.effects.specs.Steps.{gives, own_at, step_by, LaterChildren, Amounts}
+use Rattle.effects.specs.Steps.{gives, own_at, step_by, Amounts}
 use Rattle.effects.specs.declared.row.Row.{Row}
 
 -- names put into an entry's label

@@ -1,14 +1,14 @@
 -- From what was found among the amounts to the fault that is told.
-use Rattle.std.proofs.Common.{◌≡◌, ℕ, zero, suc, ◌<◌, ◌≤◌, Bool, true, false, not, ◌&&◌, ◌||◌, eqb, ◌⊎◌, List, [], ◌∷◌, Some, None, Option, sym, refl, ap, ◌∙◌, subst, ap₂, inl, inr, ⊎_elim, arith}
+use Rattle.std.proofs.Common.{◌≡◌, ℕ, ◌<◌, ◌≤◌, true, false, not, ◌||◌, eqb, ◌⊎◌, List, [], ◌∷◌, Some, None, Option, sym, refl, ap, ◌∙◌, subst, ap₂, inl, inr, ⊎_elim, arith}
 use mathlib.Core.Bool.{false≢true}
-use Rattle.std.proofs.lemmas.Bool.{and_parts, and_from, or_cases, or_left, or_right, eq-eqb, ne_eqb, eqb-true, eqb-false, not-true, not_from_false, both_ways}
+use Rattle.std.proofs.lemmas.Bool.{and_parts, and_from, or_cases, or_left, or_right, eq-eqb, ne_eqb, eqb-true, not-true, not_from_false, both_ways}
 use Rattle.calculus.specs.Countings.{Operations, Laws}
 use Rattle.calculus.specs.Labels as calculus
 use Rattle.calculus.specs.Lists.{◌∈◌}
 use Rattle.fault.specs.Faults.{place_of, amissOf}
 use Rattle.fault.specs.Items.{list}
 use Rattle.fault.specs.declared.fault.Fault.{Fault}
-use Rattle.fault.specs.declared.fault.Fault.TheVariants.{FewRows, FreeNotPublic, IllFormed, BadChannel, WrongType, Escapes, NotCopyable, RootOwes}
+use Rattle.fault.specs.declared.fault.Fault.TheVariants.{FewRows, Escapes, NotCopyable, RootOwes}
 use Rattle.fault.specs.declared.label.Label.{Label}
 use Rattle.tables.specs.Elements.{elements}
 use Rattle.tables.specs.declared.tables.Node.{Node}
@@ -20,7 +20,7 @@ use Rattle.meaning.specs.Amounts.{amount_at}
 use Rattle.meaning.specs.Faults.{names_label, Faulty, few_rows, free_not_public, ill_formed, bad_channel, wrong_type, escapes, not_copyable, root_owes, stage, Before, earlier_stage, higher_node, lower_label, FirstTold}
 use Rattle.meaning.proofs.Scopes.{items_of, member_of}
 use Rattle.effects.specs.Faults.{OfEffects, node_fault, fault_at}
-use Rattle.effects.specs.Found.{meets, label_before, uncopyable, bad, fails, node_of, rank, Later, FirstOf}
+use Rattle.effects.specs.Found.{meets, label_before, uncopyable, bad, fails, node_of, rank, FirstOf}
 use Rattle.effects.specs.declared.found.Found.{Found}
 use Rattle.effects.specs.declared.found.Place.{Place}
 use Rattle.effects.specs.declared.found.Place.TheVariants.{Root, At}

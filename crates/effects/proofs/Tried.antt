@@ -1,7 +1,7 @@
 -- A label that no row brings in has no amount anywhere, so trying the labels of the rows is enough.
-use Rattle.std.proofs.Common.{◌≡◌, ℕ, zero, suc, ◌+◌, ◌*◌, ◌/◌, ◌<◌, ◌≤◌, max, Bool, true, false, cond, not, ◌&&◌, eqb, ◌⊎◌, List, [], ◌∷◌, ◌++◌, length, get_or, take, drop, Some, None, Option, sym, refl, ap, ◌∙◌, subst, ap₂, inl, inr, ⊎_elim, add-one, arith}
-use Rattle.std.proofs.lemmas.List.{get_or_past, get_or-take, get_or-drop, length-take-le, length-drop}
-use Rattle.std.proofs.lemmas.Bool.{cases_eq, cases_lt, cases_order, cases_Bool, and_from, both_ways, ne_eqb, not_from_false}
+use Rattle.std.proofs.Common.{◌≡◌, ℕ, zero, suc, ◌+◌, ◌*◌, ◌/◌, ◌<◌, ◌≤◌, true, false, cond, not, eqb, ◌⊎◌, List, [], ◌∷◌, ◌++◌, length, get_or, drop, Some, None, Option, sym, refl, ap, ◌∙◌, subst, inl, inr, ⊎_elim, add-one, arith}
+use Rattle.std.proofs.lemmas.List.{get_or-take, get_or-drop, length-take-le, length-drop}
+use Rattle.std.proofs.lemmas.Bool.{cases_eq, cases_lt, cases_order, and_from, both_ways, ne_eqb, not_from_false}
 use Rattle.calculus.specs.Countings.{Operations, Laws}
 use Rattle.calculus.specs.Effects.{◌≟◌}
 use Rattle.calculus.specs.Joins.{amount_if, join_over}
@@ -14,7 +14,7 @@ use Rattle.sheet.specs.Tree.{node_at}
 use Rattle.meaning.specs.Faults.{names_label}
 use Rattle.effects.specs.Found.{bad, fails, asks, brought, tried, FirstIn, FirstOf}
 use Rattle.effects.specs.Rows.{blank, places}
-use Rattle.effects.specs.Steps.{gives, own_at, step_by, LaterChildren, Amounts}
+use Rattle.effects.specs.Steps.{gives, own_at, step_by, Amounts}
 use Rattle.effects.specs.declared.found.Found.{Found}
 use Rattle.effects.specs.declared.found.Place.{Place}
 use Rattle.effects.specs.declared.found.Place.TheVariants.{Root, At}

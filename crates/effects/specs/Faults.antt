@@ -7,7 +7,6 @@ use Rattle.tables.specs.declared.tables.Node.{Node}
 use Rattle.tables.specs.declared.tables.Node.TheVariants.{Stop, Send, Receive, Both, Copy, New, Test, Begin, End}
 use Rattle.sheet.specs.Tree.{node_at}
 use Rattle.meaning.specs.Faults.{stage}
-use Rattle.effects.specs.declared.found.Found.{Found}
 use Rattle.effects.specs.declared.found.Place.{Place}
 use Rattle.effects.specs.declared.found.Place.TheVariants.{Root, At}
 

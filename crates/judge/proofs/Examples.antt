@@ -1,14 +1,14 @@
 -- The verdicts of the nine small sheets, by the definitions alone: each name and each node is looked at, and all amounts compute.
-use Rattle.std.proofs.Common.{◌≡◌, ℕ, zero, suc, ◌+◌, ◌<◌, ◌≤◌, Bool, true, false, ◌⊎◌, List, [], ◌∷◌, length, get_or, Some, None, sym, refl, ap, ◌∙◌, subst, inl, inr, ⊎_elim, arith}
+use Rattle.std.proofs.Common.{◌≡◌, ℕ, zero, suc, ◌+◌, ◌<◌, ◌≤◌, true, false, List, [], ◌∷◌, length, get_or, Some, None, sym, refl, ◌∙◌, subst, inl, ⊎_elim, arith}
 use Rattle.std.proofs.lemmas.List.{get_or_past}
 use Rattle.std.proofs.lemmas.Bool.{false≢true, cases_eq, cases_lt}
 use Rattle.calculus.specs.Built as built
-use Rattle.calculus.specs.Checks.{Checks, Passes}
+use Rattle.calculus.specs.Checks.{Checks}
 use Rattle.calculus.specs.Countings.{Operations, Laws}
-use Rattle.calculus.specs.Effects.{◌≟◌, amount, latent}
+use Rattle.calculus.specs.Effects.{◌≟◌}
 use Rattle.calculus.specs.Joins.{amount_if}
 use Rattle.calculus.specs.Labels.{Label, one, items}
-use Rattle.calculus.specs.Lists.{◌∈◌, extend}
+use Rattle.calculus.specs.Lists.{◌∈◌}
 use Rattle.calculus.specs.Scopes.{in_scope, Fresh, push, outermost, WellFormedInside, WellFormed}
 use Rattle.calculus.specs.Types.{Name, Entry, NameType, public, channel, required, SameType, same_public}
 use Rattle.calculus.specs.Typing.{Takes, ChannelUse}
@@ -23,12 +23,12 @@ use Rattle.tables.specs.declared.tables.Tables.{Tables}
 use Rattle.sheet.specs.Tree.{node_at}
 use Rattle.meaning.specs.Accepts.{Accepts}
 use Rattle.meaning.specs.Amounts.{amount_at}
-use Rattle.meaning.specs.Faults.{names_label, Faulty, escapes, not_copyable, wrong_type, FirstTold}
+use Rattle.meaning.specs.Faults.{names_label, Faulty, escapes, not_copyable, wrong_type}
 use Rattle.meaning.specs.Processes.{process_at}
 use Rattle.meaning.specs.Scopes.{free, scope_for}
 use Rattle.meaning.specs.Types.{type_within, types_of}
 use Rattle.meaning.specs.Uses.{CountFits, TypesFit}
-use Rattle.judge.specs.Examples.{a, Example, stops, ends_twice, ends, ends_new, ends_copied, halves, one_half, same_twice, tells_secret, nine, Right, AllRight}
+use Rattle.judge.specs.Examples.{a, stops, ends_twice, ends, ends_new, ends_copied, halves, one_half, same_twice, tells_secret, Right, AllRight}
 use Rattle.judge.specs.Typed.{Typed}
 use Rattle.judge.proofs.Loud.{loud, fault_at_node, quiet, owing, loudest}
 use Rattle.judge.proofs.Single.{Brings, elsewhere}

@@ -1,11 +1,10 @@
 -- No fault is told before one that is told before it, so that the first is one fault.
-use Rattle.std.proofs.Common.{◌≡◌, ℕ, ◌<◌, ◌⊎◌, Some, None, Option, sym, refl, ap, subst, inl, inr, ⊎_elim, arith}
+use Rattle.std.proofs.Common.{◌≡◌, ℕ, ◌<◌, Some, None, Option, sym, refl, ap, subst, ⊎_elim, arith}
 use Rattle.calculus.specs.Orders.{LabelBefore}
 use Rattle.calculus.proofs.Orders.{labels_ordered}
-use Rattle.fault.specs.Faults.{amissOf}
 use Rattle.fault.specs.declared.label.Label.{Label}
 use Rattle.fault.specs.declared.fault.Fault.{Fault}
-use Rattle.meaning.specs.Faults.{names_label, stage, Before, earlier_stage, lower_place, higher_node, lower_label, FirstTold}
+use Rattle.meaning.specs.Faults.{names_label, Before, earlier_stage, lower_place, higher_node, lower_label, FirstTold}
 
 -- two labels do not come before each other
 labels_apart : (l m l' m' : Label ℕ) → l ≡ l' → m ≡ m' → LabelBefore ◌<◌ (names_label l) (names_label m) → LabelBefore ◌<◌ (names_label m') (names_label l') → ⊥

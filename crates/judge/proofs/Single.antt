@@ -1,7 +1,7 @@
 -- Sheets whose nodes bring one label only: at any other label every amount is 0, so only that one can be at fault.
-use Rattle.std.proofs.Common.{◌≡◌, ℕ, zero, suc, ◌+◌, ◌<◌, ◌≤◌, max, Bool, true, false, not, ◌&&◌, ◌||◌, eqb, ◌⊎◌, List, [], ◌∷◌, length, sym, refl, ap, ◌∙◌, subst, inl, inr, ⊎_elim, arith}
+use Rattle.std.proofs.Common.{◌≡◌, ℕ, zero, suc, List, length, sym, refl, ◌∙◌, arith}
 use Rattle.calculus.specs.Countings.{Operations, Laws}
-use Rattle.calculus.specs.Effects.{◌≟◌, latent, full_right, amount}
+use Rattle.calculus.specs.Effects.{◌≟◌, latent, amount}
 use Rattle.calculus.specs.Labels.{Label}
 use Rattle.calculus.specs.Types.{Assignment, Name}
 use Rattle.calculus.proofs.Joins.{if_no, join_zero, lack_zero}

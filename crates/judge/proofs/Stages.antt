@@ -1,21 +1,20 @@
 -- The faults of names and uses, stage by stage: the first of the first stage that has one is told first.
-use Rattle.std.proofs.Common.{◌≡◌, ℕ, ◌<◌, ◌≤◌, true, not, ◌&&◌, ltb, ◌⊎◌, length, Some, None, sym, refl, ap, ◌∙◌, subst, inl, inr, ⊎_elim, arith}
-use Rattle.std.proofs.lemmas.Bool.{cases_order, and_parts, ltb-true}
+use Rattle.std.proofs.Common.{◌≡◌, ℕ, ◌<◌, ◌≤◌, true, ◌⊎◌, length, Some, None, sym, refl, ap, ◌∙◌, subst, inl, inr, ⊎_elim, arith}
+use Rattle.std.proofs.lemmas.Bool.{cases_order}
 use Rattle.calculus.specs.Countings.{Operations}
 use Rattle.calculus.specs.Scopes.{in_scope, WellFormed}
 use Rattle.calculus.specs.Types.{public}
 use Rattle.fault.specs.Faults.{place_of}
 use Rattle.fault.specs.declared.fault.Fault.{Fault}
-use Rattle.fault.specs.declared.fault.Fault.TheVariants.{FewRows, FreeNotPublic, IllFormed, BadChannel, WrongType, Escapes, NotCopyable, RootOwes}
+use Rattle.fault.specs.declared.fault.Fault.TheVariants.{FreeNotPublic, IllFormed, BadChannel, WrongType}
 use Rattle.tables.specs.Elements.{elements}
 use Rattle.tables.specs.declared.tables.Tables.{Tables}
 use Rattle.sheet.specs.Tree.{node_at}
 use Rattle.meaning.specs.Faults.{Faulty, few_rows, free_not_public, ill_formed, bad_channel, wrong_type, escapes, not_copyable, root_owes, stage, Before, earlier_stage, lower_place, FirstTold}
-use Rattle.meaning.specs.Scopes.{bound, free, scope_for}
+use Rattle.meaning.specs.Scopes.{free, scope_for}
 use Rattle.meaning.specs.Types.{types_of}
 use Rattle.meaning.specs.Uses.{CountFits, TypesFit}
-use Rattle.effects.specs.Faults.{OfEffects}
-use Rattle.judge.specs.Typed.{OfTypes, Typed}
+use Rattle.judge.specs.Typed.{OfTypes}
 
 -- a rule about the places of names or nodes
 pub data Rule : Type 0 where

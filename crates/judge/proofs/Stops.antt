@@ -1,13 +1,11 @@
 -- The rules accept a sheet of one stop, so that a place for a passed sheet holds one from the start.
-use Rattle.std.proofs.Common.{◌≡◌, ℕ, ◌<◌, true, not, ◌&&◌, ltb, List, [], ◌∷◌, length, sym, ap, subst, arith}
+use Rattle.std.proofs.Common.{◌≡◌, ℕ, not, ltb, List, length, sym, ap, subst, arith}
 use Rattle.std.proofs.lemmas.Bool.{and_parts, ltb-true}
 use Rattle.calculus.specs.Countings.{Operations}
 use Rattle.calculus.specs.Effects.{empty}
-use Rattle.calculus.specs.Processes.{Process}
 use Rattle.calculus.specs.Typing.{Derives, stop_rule}
 use Rattle.tables.specs.Elements.{elements}
 use Rattle.tables.specs.declared.tables.Node.{Node}
-use Rattle.tables.specs.declared.tables.Node.TheVariants.{Stop}
 use Rattle.tables.specs.declared.tables.Tables.{Tables}
 use Rattle.sheet.specs.Opening.{OneStop}
 use Rattle.meaning.specs.Accepts.{Accepts}

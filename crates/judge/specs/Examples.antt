@@ -1,5 +1,5 @@
 -- Nine small sheets, each with its verdict by parts with full right 2 and by once.
-use Rattle.std.specs.Prelude.{◌≡◌, ℕ, List, [], ◌∷◌, length, Some, None, Option}
+use Rattle.std.specs.Prelude.{ℕ, List, [], ◌∷◌, length, Some, None, Option}
 use Rattle.std.specs.List.{AllByRecursion}
 use Rattle.calculus.specs.Built.{parts, once}
 use Rattle.calculus.specs.Countings.{Operations}

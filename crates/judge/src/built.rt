@@ -1,7 +1,6 @@
 //! The passed sheets of the two countings that are built.
 ghost use Rattle.calculus.specs.Built.{parts, once};
 ghost use Rattle.meaning.specs.Accepts.{Accepts};
-ghost use Rattle.std.proofs.Common.{rules};
 
 use crate::passed::Passing;
 use counting::{Once, Parts};
@@ -21,7 +20,7 @@ impl Passing for Parts {
 
     ghost inner = { λ p. p.sheet };
 
-    ghost accepted = { Prim.search rules };
+    ghost accepted = { λ p. p.accepted };
 
     fn pass(sheet: PartsSheet) -> PartsPassed {
         PartsPassed { sheet }
@@ -48,7 +47,7 @@ impl Passing for Once {
 
     ghost inner = { λ p. p.sheet };
 
-    ghost accepted = { Prim.search rules };
+    ghost accepted = { λ p. p.accepted };
 
     fn pass(sheet: OnceSheet) -> OncePassed {
         OncePassed { sheet }

@@ -6,7 +6,6 @@ ghost use Rattle.fault.specs.declared.fault.Fault.{Fault};
 ghost use Rattle.tables.specs.Elements.{elements};
 ghost use Rattle.tables.specs.Range.{ranged, totals};
 ghost use Rattle.sheet.specs.Opening.{Crooked};
-ghost use Rattle.std.proofs.Common.{rules};
 
 use crate::opened::Sheets;
 use counting::{Once, Parts};
@@ -33,7 +32,12 @@ impl Sheets for Parts {
 
     ghost held = { λ s. s.tables };
 
-    ghost sound = { Prim.search rules };
+    ghost sound = { λ s. record {
+      in_range = s.ranged;
+      some = s.some;
+      limited = record { types = s.types; names = s.names; nodes = s.nodes; entries = s.entries };
+      straight = s.straight;
+    } };
 
     fn seal(self, tables: Tables) -> PartsSheet {
         let counting = self;
@@ -70,7 +74,12 @@ impl Sheets for Once {
 
     ghost held = { λ s. s.tables };
 
-    ghost sound = { Prim.search rules };
+    ghost sound = { λ s. record {
+      in_range = s.ranged;
+      some = s.some;
+      limited = record { types = s.types; names = s.names; nodes = s.nodes; entries = s.entries };
+      straight = s.straight;
+    } };
 
     fn seal(self, tables: Tables) -> OnceSheet {
         OnceSheet {

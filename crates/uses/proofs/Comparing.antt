@@ -1,12 +1,11 @@
 -- Labels compared as the tables have them, and effects compared at the labels of their own entries.
-use Rattle.std.proofs.Common.{◌≡◌, ℕ, zero, suc, ◌+◌, ◌-◌, ◌<◌, ◌≤◌, Bool, true, false, ◌&&◌, leb, ◌⊎◌, List, [], ◌∷◌, map, length, get_or, take, drop, sym, refl, ap, ◌∙◌, subst, ap₂, inl, inr, ⊎_elim, arith}
+use Rattle.std.proofs.Common.{◌≡◌, ℕ, ◌+◌, ◌-◌, ◌<◌, ◌≤◌, true, ◌⊎◌, List, [], ◌∷◌, map, length, get_or, take, drop, sym, refl, ap, ◌∙◌, subst, ap₂, inl, inr, ⊎_elim, arith}
 use Rattle.std.specs.List.{AllByRecursion}
 use Rattle.std.proofs.ByRecursion.{All-drop, All-get_or, All-push}
 use Rattle.std.proofs.lemmas.List.{length-map, length-drop, drop_more, drop-map, get_or-map, map_more}
 use Rattle.std.proofs.lemmas.Bool.{and_parts, leb-true}
-use Rattle.calculus.specs.Countings.{Operations, Laws, joined, Each≤}
+use Rattle.calculus.specs.Countings.{Operations, Laws, Each≤}
 use Rattle.calculus.specs.Equality.{decide}
-use Rattle.calculus.specs.Joins.{amount_if}
 use Rattle.calculus.specs.Labels.{Label, label_test, items}
 use Rattle.calculus.specs.Types as calculus
 use Rattle.calculus.specs.Types.{entries_at, item_test}

@@ -1,7 +1,7 @@
 -- Types are the same where their heads are and their components.
 use Rattle.std.proofs.Common.{◌≡◌, ℕ, suc, ◌<◌, List, length, get_or, refl, arith}
 use Rattle.calculus.specs.Countings.{Operations}
-use Rattle.calculus.specs.Types.{NameType, pure, public, channel, Entry, SameType, same_pure, same_public, same_channel, fill_type}
+use Rattle.calculus.specs.Types.{NameType, channel, Entry, SameType, same_pure, same_public, same_channel, fill_type}
 use Rattle.tables.specs.Channels.{components}
 use Rattle.tables.specs.declared.tables.SheetType.{SheetType}
 use Rattle.tables.specs.declared.tables.SheetType.TheVariants.{Pure, Public, Channel}

@@ -1,6 +1,5 @@
 -- What opening established of the types that are compared.
-use Rattle.std.proofs.Common.{◌≡◌, ℕ, ◌<◌, ◌≤◌, Bool, true, false, ◌&&◌, ltb, leb, List, [], ◌∷◌, map, length, get_or, sym, refl, ap, ◌∙◌, subst, ⊎_elim, arith}
-use Rattle.std.specs.List.{AllByRecursion}
+use Rattle.std.proofs.Common.{◌≡◌, ℕ, ◌≤◌, true, ◌&&◌, ltb, leb, List, [], ◌∷◌, length, get_or, refl, ap, ◌∙◌, ⊎_elim, arith}
 use Rattle.std.proofs.lemmas.List.{get_or_past}
 use Rattle.std.proofs.lemmas.Bool.{and_parts, and_from, cases_Bool, cases_lt, ltb-true}
 use Rattle.calculus.specs.Countings.{Operations}
@@ -18,7 +17,7 @@ use Rattle.tables.specs.declared.tables.Tables.{Tables}
 use Rattle.sheet.specs.Opening.{Sound, bad_type}
 use Rattle.sheet.specs.Types.{type_at, nests, too_deep}
 use Rattle.meaning.proofs.Opened.{fits_at, small_entries}
-use Rattle.uses.specs.Entries.{placed, placed_label, Placed, SoundEntries}
+use Rattle.uses.specs.Entries.{placed, Placed, SoundEntries}
 use Rattle.uses.proofs.Walking.{inner_nests}
 
 -- items in range have positions from 1

@@ -1,9 +1,8 @@
 -- The type that a channel requires at a place, by the kind of the channel.
-use Rattle.std.proofs.Common.{◌≡◌, ℕ, Bool, List, length, get_or, take, Decides, sym, refl, ap, ◌∙◌, subst}
+use Rattle.std.proofs.Common.{◌≡◌, ℕ, Bool, List, length, get_or, take, Decides, sym, refl, subst}
 use Rattle.std.proofs.lemmas.Bool.Decides.{Decides-like}
 use Rattle.calculus.specs.Countings.{Operations}
 use Rattle.calculus.specs.Types.{NameType, pure, public, SameType, same_pure, same_public, fill_type, required}
-use Rattle.tables.specs.Channels.{components}
 use Rattle.tables.specs.Elements.{elements}
 use Rattle.tables.specs.Encoding.{parts}
 use Rattle.tables.specs.declared.tables.ChannelType.{ChannelType}

@@ -1,5 +1,5 @@
 -- Pairs of types that are to be the same, the right one with arguments put in.
-use Rattle.std.specs.Prelude.{◌≡◌, ℕ, zero, suc, ◌-◌, List, [], ◌∷◌, map, length, slice_index}
+use Rattle.std.specs.Prelude.{◌≡◌, ℕ, zero, suc, ◌-◌, List, ◌∷◌, map, length, slice_index}
 use Rattle.calculus.specs.Countings.{Operations}
 use Rattle.calculus.specs.Types.{SameType, fill_type, fill_entry}
 use Rattle.tables.specs.Channels.{components, entries}

@@ -1,5 +1,4 @@
-use Rattle.std.proofs.Common.{◌≡◌, ℕ, ◌*◌, ◌≤◌, length, ap, ◌∙◌, arith}
-use Rattle.calculus.specs.Countings.{Operations}
+use Rattle.std.proofs.Common.{◌*◌, ◌≤◌, length, ap, ◌∙◌, arith}
 use Rattle.tables.specs.Elements.{elements}
 use Rattle.tables.specs.declared.tables.Tables.{Tables}
 use Rattle.effects.proofs.Sheets.{opened_amounts}

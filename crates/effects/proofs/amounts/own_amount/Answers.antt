@@ -1,4 +1,4 @@
-use Rattle.std.proofs.Common.{◌≡◌, ◌-◌, ◌≤◌, ◌∙◌, le_trans, arith}
+use Rattle.std.proofs.Common.{◌-◌, ◌∙◌, le_trans, arith}
 use Rattle.effects.specs.Steps.{gives}
 use Rattle.effects.proofs.Joins.{last_none, last_more, last_below}
 use Rattle.effects.proofs.Steps.{below_ceiling}

@@ -1,4 +1,4 @@
-use Rattle.std.proofs.Common.{◌≡◌, ℕ, ◌-◌, ◌<◌, get_or, sym, ◌∙◌, arith}
+use Rattle.std.proofs.Common.{◌-◌, get_or, sym, ◌∙◌, arith}
 use Rattle.sheet.specs.Tree.{node_at}
 use Rattle.effects.specs.Found.{bad}
 use Rattle.effects.proofs.Picks.{good_past, good_more}

@@ -1,4 +1,4 @@
-use Rattle.std.proofs.Common.{◌≡◌, ℕ, List, ◌++◌, sym, ◌∙◌, subst, arith}
+use Rattle.std.proofs.Common.{ℕ, List, ◌++◌, sym, subst, arith}
 use Rattle.fault.specs.declared.label.Label.{Label}
 use Rattle.effects.specs.Found.{FirstIn}
 use Rattle.effects.proofs.Tried.{brought_asked}

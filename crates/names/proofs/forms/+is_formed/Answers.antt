@@ -1,4 +1,4 @@
-use Rattle.std.proofs.Common.{◌≡◌, ℕ, ◌+◌, ◌-◌, ◌<◌, ◌≤◌, length, get_or, Decides, sym, ap, ◌∙◌, subst, arith, rules, below_more}
+use Rattle.std.proofs.Common.{◌+◌, ◌-◌, ◌<◌, ◌≤◌, length, get_or, sym, ap, ◌∙◌, subst, arith, rules, below_more}
 use Rattle.std.proofs.lemmas.Bool.Decides.{not_from_Decides}
 use Rattle.calculus.specs.Scopes.{push, WellFormedInside}
 use Rattle.tables.specs.Channels.{components, entries}
@@ -6,8 +6,8 @@ use Rattle.tables.specs.Encoding.{parts}
 use Rattle.sheet.specs.Types.{type_at}
 use Rattle.sheet.proofs.Nesting.{nth_within, parts_few}
 use Rattle.meaning.specs.Types.{type_within}
-use Rattle.names.specs.Marks.{marked, outer, Counts}
-use Rattle.names.proofs.Forming.{PartsFit, holds, fails, nth_none, pushed_outer, counts_in, formed, formed_entries, formed_components, formed_none, entries_tested, component_tested, component_at}
+use Rattle.names.specs.Marks.{marked, outer}
+use Rattle.names.proofs.Forming.{holds, fails, nth_none, pushed_outer, counts_in, formed, formed_entries, formed_components, formed_none, entries_tested, component_tested, component_at}
 use Rattle.names.proofs.forms.+is_formed.Goals as goal
 
 pub returns-then-levels-eq0 : goal.returns-then-levels-eq0

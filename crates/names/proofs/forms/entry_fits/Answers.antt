@@ -1,4 +1,4 @@
-use Rattle.std.proofs.Common.{◌+◌, ◌≤◌, true, false, refl, arith}
+use Rattle.std.proofs.Common.{◌+◌, ◌≤◌, true, false, arith}
 use Rattle.std.proofs.lemmas.Bool.Decides.{not_from_Decides}
 use Rattle.fault.specs.Items.{list}
 use Rattle.calculus.specs.Scopes.{WellFormedItem}

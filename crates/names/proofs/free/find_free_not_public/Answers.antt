@@ -1,4 +1,4 @@
-use Rattle.std.proofs.Common.{◌≡◌, ℕ, true, arith, below_more}
+use Rattle.std.proofs.Common.{◌≡◌, true, arith, below_more}
 use Rattle.std.proofs.lemmas.Bool.Decides.{not_from_Decides}
 use Rattle.calculus.specs.Scopes.{in_scope}
 use Rattle.calculus.specs.Types.{public}

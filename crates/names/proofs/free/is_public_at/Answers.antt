@@ -1,6 +1,6 @@
 use Rattle.std.proofs.Common.{◌≡◌, Decides, sym, refl, subst}
 use Rattle.std.proofs.lemmas.List.{get_or_past, get_or_read_under}
-use Rattle.std.proofs.lemmas.Bool.{false≢true, ltb-true, ltb-false}
+use Rattle.std.proofs.lemmas.Bool.{ltb-true, ltb-false}
 use Rattle.tables.specs.declared.tables.SheetType.TheVariants.{Pure, Public}
 use Rattle.meaning.specs.Types.{type_within}
 use Rattle.names.proofs.Freeing.{public_form, pure_not_public}

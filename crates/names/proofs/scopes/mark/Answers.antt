@@ -1,4 +1,4 @@
-use Rattle.std.proofs.Common.{◌≡◌, ◌<◌, false, length, get_or, take, arith}
+use Rattle.std.proofs.Common.{◌<◌, false, length, get_or, take, arith}
 use Rattle.std.specs.Option.{option_to_list}
 use Rattle.fault.specs.Items.{nth}
 use Rattle.tables.specs.Encoding.{parts}

@@ -1,10 +1,10 @@
-use Rattle.std.proofs.Common.{◌≡◌, true, length, get_or, Decides, sym, ap, ◌∙◌, subst}
+use Rattle.std.proofs.Common.{◌≡◌, true, get_or, Decides, sym, ap, ◌∙◌, subst}
 use Rattle.calculus.specs.Types.{SameType, fill_type}
 use Rattle.tables.specs.Channels.{components, entries}
 use Rattle.tables.specs.Elements.{elements}
 use Rattle.tables.specs.Encoding.{parts}
 use Rattle.tables.specs.declared.tables.SheetType.{SheetType}
-use Rattle.tables.specs.declared.tables.SheetType.TheVariants.{Pure, Public, Channel}
+use Rattle.tables.specs.declared.tables.SheetType.TheVariants.{Pure, Public}
 use Rattle.sheet.specs.Types.{type_at, nests}
 use Rattle.meaning.specs.Types.{type_within}
 use Rattle.uses.specs.Entries.{SoundEntries}

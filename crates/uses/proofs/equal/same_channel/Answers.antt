@@ -1,4 +1,4 @@
-use Rattle.std.proofs.Common.{◌≡◌, map, Decides, sym, ap, ◌∙◌, subst}
+use Rattle.std.proofs.Common.{map, Decides, sym, ap, ◌∙◌, subst}
 use Rattle.calculus.specs.Types.{fill_entry}
 use Rattle.tables.specs.Elements.{elements}
 use Rattle.tables.specs.Encoding.{parts}
