@@ -1,5 +1,5 @@
 -- Equality that a test decides, so that it computes wherever the things compared are written out.
-use Rattle.std.specs.Prelude.{◌≡◌, ℕ, Bool, true, false, ◌&&◌, List, [], ◌∷◌, ◌≢◌, refl, eqb}
+use Rattle.std.specs.Prelude.{◌≡◌, ℕ, Bool, true, false, ◌&&◌, List, [], ◌∷◌, ◌≢◌, refl, nat_eq}
 use Rattle.std.proofs.Common.{subst}
 use Rattle.std.proofs.lemmas.Bool.{both_ways, eqb-true, eq-eqb}
 
@@ -24,7 +24,7 @@ decide t x y = answered (t.same x y) (t.sound x y) (complete t x y)
 
 -- the test of numbers
 abbrev pub number_test : Test ℕ
-number_test = record { same = eqb; sound = eqb-true; reflexive = λ x. eq-eqb x x refl }
+number_test = record { same = nat_eq; sound = eqb-true; reflexive = λ x. eq-eqb x x refl }
 
 -- the test of lists, member by member
 abbrev pub same_members : {A : Type 0} → (A → A → Bool) → List A → List A → Bool

@@ -58,7 +58,7 @@ with_threads c ts = record { threads = ts; next = c.next; known = c.known; made 
 abbrev pub Covered : Operations → Configuration → Label Value → Type 0
 Covered K c M = rights K (suc (c.ends M)) ≤ rights K (c.begins M)
 
--- what may come of the configuration c. Threads are taken out of the bag c .threads, which leaves r (or first s, then r),
+-- what may come of the configuration c. Threads are taken out of the bag c.threads, which leaves r (or first s, then r),
 -- and others are put in, which makes t (or first s, then t)
 pub data Reduction (K : Operations) (c : Configuration) : Configuration → Type 0 where
   step_stop : {ρ : Valuation} {r : List Thread} → Removal (thread stop ρ) c.threads r → Reduction K c (with_threads c r)

@@ -5,7 +5,7 @@ use Rattle.std.proofs.lemmas.Bool.{and_parts, and_from, or_cases, or_left, or_ri
 use Rattle.calculus.specs.Countings.{Operations, Laws}
 use Rattle.calculus.specs.Labels as calculus
 use Rattle.calculus.specs.Lists.{◌∈◌}
-use Rattle.fault.specs.Faults.{place_of, amissOf}
+use Rattle.fault.specs.Faults.{place_of, amiss_of}
 use Rattle.fault.specs.Items.{list}
 use Rattle.fault.specs.declared.fault.Fault.{Fault}
 use Rattle.fault.specs.declared.fault.Fault.TheVariants.{FewRows, Escapes, NotCopyable, RootOwes}
@@ -64,7 +64,7 @@ binder_fault z n L a (Begin l next) m = refl
 binder_fault z n L a (End l next) m = refl
 
 -- the stage, the place and the label of what is told
-stage_at : (n : ℕ) (L : Label ℕ) (a : ℕ) (x : Node) → (stage (node_fault x n L a) ≡ 12) × (place_of (node_fault x n L a) ≡ n) × (amissOf (node_fault x n L a) ≡ Some (L, a))
+stage_at : (n : ℕ) (L : Label ℕ) (a : ℕ) (x : Node) → (stage (node_fault x n L a) ≡ 12) × (place_of (node_fault x n L a) ≡ n) × (amiss_of (node_fault x n L a) ≡ Some (L, a))
 stage_at n L a Stop = (refl, refl, refl)
 stage_at n L a (Send channel xs) = (refl, refl, refl)
 stage_at n L a (Receive channel xs next) = (refl, refl, refl)
@@ -75,7 +75,7 @@ stage_at n L a (Test x y b c) = (refl, refl, refl)
 stage_at n L a (Begin l next) = (refl, refl, refl)
 stage_at n L a (End l next) = (refl, refl, refl)
 
-amiss_at : (all : List Node) (p : Place) (L : Label ℕ) (a : ℕ) → amissOf (fault_at all p L a) ≡ Some (L, a)
+amiss_at : (all : List Node) (p : Place) (L : Label ℕ) (a : ℕ) → amiss_of (fault_at all p L a) ≡ Some (L, a)
 amiss_at all Root L a = refl
 amiss_at all (At n) L a = (stage_at n L a (node_at all n)).2
 

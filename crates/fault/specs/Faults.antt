@@ -49,9 +49,9 @@ number_of f = (entry f).number
 abbrev pub place_of : Fault → ℕ
 place_of f = (entry f).place
 
-abbrev pub amissOf : Fault → Option (Label ℕ × ℕ)
-amissOf f = (entry f).amiss
+abbrev pub amiss_of : Fault → Option (Label ℕ × ℕ)
+amiss_of f = (entry f).amiss
 
 -- 1 to 6 are the sheet's, 7 to 14 the judge's, the others the run's
-abbrev pub layerOf : Fault → Layer
-layerOf f = cond (nat_le (number_of f) 6) Sheet (cond (nat_le (number_of f) 14) Judge Run)
+abbrev pub layer_of : Fault → Layer
+layer_of f = cond (nat_le (number_of f) 6) Sheet (cond (nat_le (number_of f) 14) Judge Run)

@@ -1,6 +1,6 @@
 //! Refusals.
 ghost use Rattle.std.specs.Prelude.{◌≡◌};
-ghost use Rattle.fault.specs.Faults.{number_of, layerOf, place_of, amissOf};
+ghost use Rattle.fault.specs.Faults.{number_of, layer_of, place_of, amiss_of};
 
 use crate::label::Label;
 
@@ -105,7 +105,7 @@ impl Fault {
 
     /// The layer that refuses by this number.
     pub fn layer(&self) -> Layer
-        ensures { result ≡ layerOf self.now }
+        ensures { result ≡ layer_of self.now }
     {
         match self.number() {
             0..=6 => Layer::Sheet,
@@ -143,7 +143,7 @@ impl Fault {
 
     /// The first label at fault and its amount there, of those refusals that are about an amount.
     pub fn amiss(&self) -> Option<(Label<u8>, u32)>
-        ensures { result ≡ amissOf self.now }
+        ensures { result ≡ amiss_of self.now }
     {
         match self {
             Fault::Escapes { label, amount, .. }

@@ -1,6 +1,6 @@
 -- The lines that the bench prints, as bytes.
 use Rattle.std.specs.Prelude.{ℕ, List, [], ◌∷◌, ◌++◌, Some, None, codes, decimal, Option}
-use Rattle.fault.specs.Faults.{number_of, layerOf, place_of, amissOf}
+use Rattle.fault.specs.Faults.{number_of, layer_of, place_of, amiss_of}
 use Rattle.fault.specs.Items.{list}
 use Rattle.fault.specs.declared.fault.Fault.{Fault}
 use Rattle.fault.specs.declared.fault.Layer.{Layer}
@@ -28,7 +28,7 @@ amiss (Some (label, amount)) = codes " " ++ (dotted (list label.items) ++ (codes
 abbrev pub refused : Fault → List ℕ
 refused f =
     codes "FAIL "
-    ++ (word (layerOf f) ++ (codes " " ++ (decimal (number_of f) ++ (codes " " ++ (decimal (place_of f) ++ (amiss (amissOf f) ++ codes "\n"))))))
+    ++ (word (layer_of f) ++ (codes " " ++ (decimal (number_of f) ++ (codes " " ++ (decimal (place_of f) ++ (amiss (amiss_of f) ++ codes "\n"))))))
 
 -- the line of a sheet that opens, with the count of its nodes
 abbrev pub opened : ℕ → List ℕ

@@ -47,10 +47,10 @@ pub record Clean (K : Operations) (t : Tables) : Type 0 where
   pub nothing_owed : (L : Label Name) → amount_at K t 0 L ≡ 0
 
 -- an element is a member, and a member has a place
-getD_member : (zs : List ℕ) (i : ℕ) → i < length zs → member (get_or zs i 0) zs ≡ true
-getD_member [] i l = absurd (omega arith)
-getD_member (z ∷ zs) zero l = first z zs
-getD_member (z ∷ zs) (suc i) l = or_right (eqb (get_or zs i 0) z) (member (get_or zs i 0) zs) (getD_member zs i (omega arith))
+get_or_member : (zs : List ℕ) (i : ℕ) → i < length zs → member (get_or zs i 0) zs ≡ true
+get_or_member [] i l = absurd (omega arith)
+get_or_member (z ∷ zs) zero l = first z zs
+get_or_member (z ∷ zs) (suc i) l = or_right (eqb (get_or zs i 0) z) (member (get_or zs i 0) zs) (get_or_member zs i (omega arith))
 
 place_of : (x : ℕ) (zs : List ℕ) → member x zs ≡ true → (i : ℕ) × (i < length zs) × (get_or zs i 0 ≡ x)
 place_of x [] m = absurd (false≢true m)
@@ -67,7 +67,7 @@ earlier_take (z ∷ zs) zero l r = cond-true (eqb z z) [] (z ∷ earlier z zs) (
 earlier_take (z ∷ zs) (suc i) l r =
     let p = or_parts (member z zs) (repeats zs) r in
     let x = get_or zs i 0 in
-    let other : eqb x z ≡ false = ne_eqb x z (λ e. both_ways (member z zs) p.0 (subst (λ y. member y zs ≡ true) e (getD_member zs i (omega arith)))) in
+    let other : eqb x z ≡ false = ne_eqb x z (λ e. both_ways (member z zs) p.0 (subst (λ y. member y zs ≡ true) e (get_or_member zs i (omega arith)))) in
     cond-false (eqb x z) [] (z ∷ earlier x zs) other ∙ ap (λ ys. z ∷ ys) (earlier_take zs i (omega arith) p.1)
 
 -- a member of one or two
@@ -104,7 +104,7 @@ module _ (K : Operations) (t : Tables) (sound : Sound K.largest t) where
       scope_for t (get_or zs i 0) ≡ lists.extend (take i zs) (scope_at t n)
   scope_turn n i l zs e j =
       let x = get_or zs i 0 in
-      let m : member x (binds (node_at (elements t.nodes) n)) ≡ true = ap (member x) e ∙ getD_member zs i j in
+      let m : member x (binds (node_at (elements t.nodes) n)) ≡ true = ap (member x) e ∙ get_or_member zs i j in
       ap (scope_beside t x) (binder_found n x l m)
       ∙ ap (λ ys. lists.extend ys (scope_at t n)) (ap (earlier x) e ∙ earlier_take zs i j (sym (ap repeats e) ∙ once_each n l))
 
@@ -114,7 +114,7 @@ module _ (K : Operations) (t : Tables) (sound : Sound K.largest t) where
         WellFormedInTurn (types_of t) (scope_at t n) zs
     in_turn n l zs e b i j =
         subst (λ Γ. WellFormed Γ (types_of t (get_or zs i 0))) (scope_turn n i l zs e j)
-        (clean.well_formed (get_or zs i 0) (member_below (length (elements t.names)) zs (get_or zs i 0) b (getD_member zs i j)))
+        (clean.well_formed (get_or zs i 0) (member_below (length (elements t.names)) zs (get_or zs i 0) b (get_or_member zs i j)))
 
     module _ (n : ℕ) (there : n < length (elements t.nodes)) (go : (c : ℕ) → n < c → Judged K (types_of t) (scope_at t c) (process_at (elements t.nodes) c)) where
       kid : (c : ℕ) (zs : List ℕ) → ltb c (length (elements t.nodes)) ≡ true → member c (children (node_at (elements t.nodes) n)) ≡ true → binds (node_at (elements t.nodes) n) ≡ zs →

@@ -6,7 +6,7 @@ use Rattle.calculus.specs.Lists.{◌∈◌}
 use Rattle.calculus.specs.Orders.{LabelBefore}
 use Rattle.calculus.specs.Scopes.{in_scope, WellFormed}
 use Rattle.calculus.specs.Types.{Name, public}
-use Rattle.fault.specs.Faults.{number_of, place_of, amissOf}
+use Rattle.fault.specs.Faults.{number_of, place_of, amiss_of}
 use Rattle.fault.specs.declared.label.Label.{Label}
 use Rattle.fault.specs.declared.fault.Fault.{Fault}
 use Rattle.fault.specs.declared.fault.Fault.TheVariants.{FewRows, FreeNotPublic, IllFormed, BadChannel, WrongType, Escapes, NotCopyable, RootOwes}
@@ -59,7 +59,7 @@ pub data Before (f g : Fault) : Type 0 where
   -- 12 and 13 go from the highest node down
   higher_node : stage f ≡ 12 → stage g ≡ 12 → place_of g < place_of f → Before f g
   -- and at one place the labels go in their order
-  lower_label : stage f ≡ stage g → place_of f ≡ place_of g → (l m : Label ℕ) (a b : ℕ) → amissOf f ≡ Some (l, a) → amissOf g ≡ Some (m, b) →
+  lower_label : stage f ≡ stage g → place_of f ≡ place_of g → (l m : Label ℕ) (a b : ℕ) → amiss_of f ≡ Some (l, a) → amiss_of g ≡ Some (m, b) →
       LabelBefore ◌<◌ (names_label l) (names_label m) → Before f g
 
 -- there is no fault; or this is one, and it is told before every other

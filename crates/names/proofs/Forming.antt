@@ -144,10 +144,10 @@ module _ {X : Type 0} (P : X → Type 0) (xs : List X) (i : ℕ) where
   pub all_over : length xs ≤ i → (AllByRecursion P (drop i xs) → AllByRecursion P xs) → AllByRecursion P xs
   all_over l before = before (subst (AllByRecursion P) (sym (drop_all i xs l)) tt)
 
-nth_getD : (xs : List ℕ) (i x : ℕ) → Some x ≡ nth xs i → get_or xs i 0 ≡ x
-nth_getD [] i x e = let z : ◌≡◌ {A = ℕ} 0 1 = cc in absurd (omega arith)
-nth_getD (y ∷ ys) zero x e = cc
-nth_getD (y ∷ ys) (suc i) x e = nth_getD ys i x e
+nth_get_or : (xs : List ℕ) (i x : ℕ) → Some x ≡ nth xs i → get_or xs i 0 ≡ x
+nth_get_or [] i x e = let z : ◌≡◌ {A = ℕ} 0 1 = cc in absurd (omega arith)
+nth_get_or (y ∷ ys) zero x e = cc
+nth_get_or (y ∷ ys) (suc i) x e = nth_get_or ys i x e
 
 pub nth_none : (xs : List ℕ) (i : ℕ) → None ≡ nth xs i → length xs ≤ i
 nth_none [] i e = omega arith
@@ -220,7 +220,7 @@ component_tested Γ b d i t r s h =
 
 -- the component at a place
 pub component_at : (xs ys : List ℕ) (i x : ℕ) → Some x ≡ nth xs i → xs ≡ ys → x ≡ get_or ys i 0
-component_at xs ys i x e s = sym (nth_getD xs i x e) ∙ ap (λ zs. get_or zs i 0) s
+component_at xs ys i x e s = sym (nth_get_or xs i x e) ∙ ap (λ zs. get_or zs i 0) s
 
 -- marks of a scope are as good as the scope
 pub marks_in : (marks : List Bool) (Γ : Scope) → Marks marks Γ → (y : ℕ) → in_scope (marked marks) y ≡ in_scope Γ y

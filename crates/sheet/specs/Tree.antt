@@ -1,5 +1,5 @@
 -- Nodes form a tree: a child's number is above its parent's, and every node but 0 is a child just once.
-use Rattle.std.specs.Prelude.{ℕ, Bool, not, ◌&&◌, ◌||◌, ltb, List, [], ◌∷◌, sum_by, count_by, ◌==◌, nat_eq, nat_lt, slice_index_or}
+use Rattle.std.specs.Prelude.{ℕ, Bool, not, ◌&&◌, ◌||◌, List, [], ◌∷◌, sum_by, count_by, ◌==◌, nat_eq, nat_lt, slice_index_or}
 use Rattle.tables.specs.Range.{all}
 use Rattle.tables.specs.declared.tables.Node.{Node}
 use Rattle.tables.specs.declared.tables.Node.TheVariants.{Stop, Send, Receive, Both, Copy, New, Test, Begin, End}
@@ -29,4 +29,4 @@ named nodes n = sum_by (λ x. times n (children x)) nodes
 
 -- node n has a child not above it, or is not 0 and not a child just once
 abbrev pub misgrown : List Node → ℕ → Bool
-misgrown nodes n = not (all (λ c. ltb n c) (children (node_at nodes n))) || (nat_lt 0 n && not (named nodes n == 1))
+misgrown nodes n = not (all (λ c. nat_lt n c) (children (node_at nodes n))) || (nat_lt 0 n && not (named nodes n == 1))

@@ -1,5 +1,5 @@
 -- What a type must keep beyond its ranges: no label twice, and nesting at most 4.
-use Rattle.std.specs.Prelude.{◌≡◌, ℕ, zero, suc, ◌<◌, Bool, false, List, length, get_or, slice_index_or}
+use Rattle.std.specs.Prelude.{◌≡◌, ℕ, zero, suc, ◌<◌, Bool, false, List, length, slice_index_or}
 use Rattle.tables.specs.Channels.{components, entries}
 use Rattle.tables.specs.Range.{all}
 use Rattle.tables.specs.declared.tables.Entry.{Entry}
@@ -19,5 +19,5 @@ nests types (suc d) t = all (nests types d) (components (type_at types t))
 pub data Misformed (types : List SheetType) (t : ℕ) : Type 0 where
   -- two of its entries have one label
   same_label : (i j : ℕ) (e : Entry) → i < j → j < length (entries (type_at types t))
-      → (get_or (entries (type_at types t)) i e).label ≡ (get_or (entries (type_at types t)) j e).label → Misformed types t
+      → (slice_index_or (entries (type_at types t)) i e).label ≡ (slice_index_or (entries (type_at types t)) j e).label → Misformed types t
   too_deep : nests types 4 t ≡ false → Misformed types t

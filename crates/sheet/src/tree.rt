@@ -1,5 +1,5 @@
 //! The nodes as a tree: each child above its parent, and every node but 0 a child just once.
-ghost use Rattle.std.specs.Prelude.{◌≡◌, ℕ, ◌+◌, ◌<◌, ◌≤◌, true, not, ◌&&◌, ◌||◌, ltb, ◌++◌, length, ◌==◌, nat_lt, slice_index};
+ghost use Rattle.std.specs.Prelude.{◌≡◌, ℕ, ◌+◌, ◌<◌, ◌≤◌, true, not, ◌&&◌, ◌||◌, ◌++◌, length, ◌==◌, nat_lt, slice_index};
 ghost use Rattle.std.specs.Option.{option_to_list};
 ghost use Rattle.fault.specs.First.{Lowest};
 ghost use Rattle.tables.specs.Range.{all};
@@ -50,7 +50,7 @@ fn count_children(nodes: &[Node], counts: &mut [usize])
 
 /// Whether a child, if there is one, stands above node `n`.
 fn is_above(child: Option<usize>, n: usize) -> bool
-    ensures { result ≡ all (λ c. ltb n c) (option_to_list child) }
+    ensures { result ≡ all (λ c. nat_lt n c) (option_to_list child) }
 {
     match child {
         Some(c) => n < c,
@@ -60,7 +60,7 @@ fn is_above(child: Option<usize>, n: usize) -> bool
 
 /// Whether node number `n`, which is named `count` times, has a child not above it or is not a child just once.
 fn is_misgrown(node: &Node, n: usize, count: usize) -> bool
-    ensures { result ≡ (not (all (λ c. ltb n c) (children node.now)) || (nat_lt 0 n && not (count == 1))) }
+    ensures { result ≡ (not (all (λ c. nat_lt n c) (children node.now)) || (nat_lt 0 n && not (count == 1))) }
 {
     let (first, second) = children_of(node);
     let above = is_above(first, n) && is_above(second, n);

@@ -1,5 +1,5 @@
 -- Which fields are in range: a record is in range where something in range has it as its record.
-use Rattle.std.specs.Prelude.{◌≡◌, ℕ, suc, ◌<◌, Bool, true, ◌&&◌, ltb, List, [], ◌∷◌, length, nat_le, nat_lt}
+use Rattle.std.specs.Prelude.{◌≡◌, ℕ, suc, ◌<◌, Bool, true, ◌&&◌, List, [], ◌∷◌, length, nat_le, nat_lt}
 use Rattle.fault.specs.Items.{list}
 use Rattle.tables.specs.Elements.{elements}
 use Rattle.tables.specs.Encoding.{parts, spread, entry_record, node_record}
@@ -28,7 +28,7 @@ all_from p i (x ∷ xs) = p i x && all_from p (suc i) xs
 
 -- each number is below n
 abbrev pub below : ℕ → List ℕ → Bool
-below n = all (λ x. ltb x n)
+below n = all (λ x. nat_lt x n)
 
 -- a name that there is, or an index: at most three arrows, and a position from 1 to 4
 abbrev pub item_fits : (names : ℕ) → Item → Bool

@@ -5,6 +5,7 @@ use Rattle.fault.specs.First.{First, Lowest}
 use Rattle.fault.specs.declared.fault.Fault.TheVariants.{NotATree, OutOfScope, BadType}
 use Rattle.tables.specs.Elements.{elements}
 use Rattle.tables.specs.Encoding.{type_records}
+use Rattle.tables.specs.declared.tables.SheetType.{SheetType}
 use Rattle.tables.specs.Range.{all, node_fits}
 use Rattle.sheet.specs.Tree.{misgrown}
 use Rattle.sheet.specs.Scope.{Misnamed}
@@ -64,7 +65,7 @@ pub records_of_types-requires-in-Some-first_misformed :
     goal.records_of_types-requires-in-Some-first_misformed
 records_of_types-requires-in-Some-first_misformed c =
     let i = c.in-Some-first_misformed.at in
-    omega (arith, length-take (i - 0) c.as_slice-types.result.now, c.as_slice-types.ensures.within)
+    omega (arith, length-take {A = SheetType}, c.as_slice-types.ensures.within)
 
 pub returns-in-Some-first_misformed : goal.returns-in-Some-first_misformed
 returns-in-Some-first_misformed c =
