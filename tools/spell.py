@@ -5,7 +5,7 @@ usage: python3 tools/spell.py [--list]     at the top of the repository
 
 A name that is declared in a file of crates/*/specs/ or directly in crates/*/proofs/ and has a hyphen is respelled
 wherever it stands in those crates: a word goes to snake case (free-name becomes free_name), a type to camel case
-(Same-type becomes SameType). Names of the library and names that the check makes for a proof keep their hyphens:
+(Same-type becomes SameType). So is a word that stands in camel case (placeOf becomes place_of). Names of the library and names that the check makes for a proof keep their hyphens:
 what a file imports from the library, and what an Answers.antt or Invariants.antt declares, is left alone.
 Comments, strings and documents are left alone too. --list prints the pairs and writes nothing.
 """
@@ -13,10 +13,10 @@ import os
 import re
 import sys
 
-NAME = r"[A-Za-zΓ-ω][\w'₀-₉]*(?:-[\w'₀-₉]+)+"
+NAME = r"[A-Za-zΓ-ω][\w'₀-₉]*(?:-[\w'₀-₉]+)+|[a-z]{2,}(?:[A-Z][a-z]+)+"
 ALONE = r"(?<![\w'₀-₉◌-])(?:%s)(?![\w'₀-₉◌-])"
 HEAD = re.compile(
-    r"^\s*(?:(?:pub|abbrev|unfoldable)\s+)*(?:(?:record|data)\s+(" + NAME + r")(?![\w'-])|(" + NAME + r")\s+:(?!\S))"
+    rf"^\s*(?:(?:pub|abbrev|unfoldable)\s+)*(?:(?:record|data)\s+({NAME})(?![\w'-])|({NAME})\s+:(?!\S))"
 )
 
 
@@ -70,6 +70,8 @@ def declared(top):
 
 def respelled(name):
     first, *rest = name.split("-")
+    if not rest:
+        return re.sub(r"[A-Z]", lambda m: "_" + m[0].lower(), name)
     if first[0].isupper():
         return first + "".join(r[0].upper() + r[1:] for r in rest)
     return "_".join([first, *rest])
