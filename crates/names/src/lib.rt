@@ -16,22 +16,23 @@ mod scopes;
 
 use crate::forms::find_ill_formed;
 use crate::free::find_free_not_public;
-use sheet::{Chart, OpenedSheet, Sheets};
+use counting::Counting;
+use sheet::{Chart, OpenedSheet};
 
 /// The first free name that is not public, or none.
-pub fn first_free_not_public<C: Sheets>(sheet: &OpenedSheet<C>) -> Option<usize>
-    ensures { FirstFailure (λ x. in_scope (free (C.Sheets.held sheet.now.sheet)) x ≡ true → types_of (C.Sheets.held sheet.now.sheet) x ≡ public) (length (elements (C.Sheets.held sheet.now.sheet).names)) result }
+pub fn first_free_not_public<C: Counting>(sheet: &OpenedSheet<C>) -> Option<usize>
+    ensures { FirstFailure (λ x. in_scope (free sheet.now.tables) x ≡ true → types_of sheet.now.tables x ≡ public) (length (elements sheet.now.tables.names)) result }
 {
     let tables = sheet.tables();
     let chart = Chart::new(tables.nodes.as_slice());
-    find_free_not_public(&tables, &chart)
+    find_free_not_public(tables, &chart)
 }
 
 /// The first name whose type is not well formed in its scope, or none.
-pub fn first_ill_formed<C: Sheets>(sheet: &OpenedSheet<C>) -> Option<usize>
-    ensures { FirstFailure (λ x. WellFormed (scope_for (C.Sheets.held sheet.now.sheet) x) (types_of (C.Sheets.held sheet.now.sheet) x)) (length (elements (C.Sheets.held sheet.now.sheet).names)) result }
+pub fn first_ill_formed<C: Counting>(sheet: &OpenedSheet<C>) -> Option<usize>
+    ensures { FirstFailure (λ x. WellFormed (scope_for sheet.now.tables x) (types_of sheet.now.tables x)) (length (elements sheet.now.tables.names)) result }
 {
     let tables = sheet.tables();
     let chart = Chart::new(tables.nodes.as_slice());
-    find_ill_formed(&tables, &chart)
+    find_ill_formed(tables, &chart)
 }

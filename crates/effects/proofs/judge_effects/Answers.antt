@@ -26,19 +26,19 @@ first_fault-first-requires g c =
 
 pub returns-then-rows-lt-ENOUGH : goal.returns-then-rows-lt-ENOUGH
 returns-then-rows-lt-ENOUGH g c =
-    let s = c.args.sheet.now.sheet in
-    let v = g.C.Sheets.own s in
+    let s = c.args.sheet.now in
+    let v = s.counting in
     record {
-      first = few_told (g.C.Counting.operations v) (g.met.C.Counting.lawful v) (g.C.Sheets.held s) (length c.args.rows.now) c.if-rows-lt-ENOUGH.true;
+      first = few_told (g.C.Counting.operations v) (g.met.C.Counting.lawful v) s.tables (length c.args.rows.now) c.if-rows-lt-ENOUGH.true;
       zero = c.clear_rows.ensures;
     }
 
 pub returns-in_default : goal.returns-in_default
 returns-in_default g c =
-    let s = c.args.sheet.now.sheet in
-    let v = g.C.Sheets.own s in
+    let s = c.args.sheet.now in
+    let v = s.counting in
     let K = g.C.Counting.operations v in
-    let t = g.C.Sheets.held s in
+    let t = s.tables in
     let k = ap g.C.Counting.operations c.counting.ensures in
     let e = c.as_slice-nodes.ensures.value ∙ ap (λ (x : Tables). elements x.nodes) c.tables-tables.ensures.value in
     let A : Label ℕ → ℕ → ℕ = λ l n. amount_at K t n (names_label l) in
@@ -51,10 +51,10 @@ returns-in_default g c =
 
 pub returns : goal.returns
 returns g c =
-    let s = c.args.sheet.now.sheet in
-    let v = g.C.Sheets.own s in
+    let s = c.args.sheet.now in
+    let v = s.counting in
     let K = g.C.Counting.operations v in
-    let t = g.C.Sheets.held s in
+    let t = s.tables in
     let f = c.in-Some.found in
     let k = ap g.C.Counting.operations c.counting.ensures in
     let e = c.as_slice-nodes.ensures.value ∙ ap (λ (x : Tables). elements x.nodes) c.tables-tables.ensures.value in

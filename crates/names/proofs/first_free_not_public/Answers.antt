@@ -11,7 +11,7 @@ use Rattle.names.proofs.first_free_not_public.Goals as goal
 
 pub find_free_not_public-requires : goal.find_free_not_public-requires
 find_free_not_public-requires g c =
-    charts _ c.tables-tables.result c.tables-tables.ensures.sound c.as_slice.result.now c.as_slice.ensures.value c.new-chart.result
+    charts _ c.tables-tables.result.now c.tables-tables.ensures.sound c.as_slice.result.now c.as_slice.ensures.value c.new-chart.result
     c.new-chart.ensures.binders c.new-chart.ensures.parents c.new-chart.ensures.sizes
 
 pub returns : goal.returns

@@ -10,7 +10,7 @@ use Rattle.names.proofs.first_ill_formed.Goals as goal
 
 pub find_ill_formed-requires : goal.find_ill_formed-requires
 find_ill_formed-requires g c =
-    charts _ c.tables-tables.result c.tables-tables.ensures.sound c.as_slice.result.now c.as_slice.ensures.value c.new-chart.result
+    charts _ c.tables-tables.result.now c.tables-tables.ensures.sound c.as_slice.result.now c.as_slice.ensures.value c.new-chart.result
     c.new-chart.ensures.binders c.new-chart.ensures.parents c.new-chart.ensures.sizes
 
 pub returns : goal.returns
