@@ -20,7 +20,8 @@ impl<C: Counting> PassedSheet<C> {
         ensures counting { result.sheet.counting ≡ counting }
         ensures tables { OneStop result.sheet.tables }
     {
-        passed_of(&OpenedSheet::new(counting))
+        let opened = OpenedSheet::new(counting);
+        passed_of(&opened)
     }
 
     /// The counting that the sheet was judged with.

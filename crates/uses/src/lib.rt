@@ -17,8 +17,8 @@ mod lookup;
 mod pending;
 
 use arguments::first_mistyped;
-use counts::first_miscounted;
 use counting::Counting;
+use counts::first_miscounted;
 use sheet::OpenedSheet;
 
 /// The first node whose channel is pure or takes another count of names, or none.

@@ -1,8 +1,6 @@
-use Rattle.std.proofs.Common.{length, ap, subst}
-use Rattle.calculus.specs.Countings.{Operations}
-use Rattle.tables.specs.declared.tables.Tables.{Tables}
+use Rattle.std.proofs.Common.{length}
 use Rattle.meaning.specs.Faults.{names_label}
-use Rattle.judge.proofs.Telling.{Told, told_least, told_past}
+use Rattle.judge.proofs.Telling.{told_least, told_past}
 use Rattle.judge.proofs.verdict.tell.Goals as goal
 
 pub returns : goal.returns
