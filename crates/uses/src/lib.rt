@@ -14,7 +14,6 @@ mod effects;
 mod equal;
 mod fill;
 mod lookup;
-mod pending;
 
 use arguments::first_mistyped;
 use counting::Counting;
@@ -32,5 +31,5 @@ pub fn first_bad_channel<C: Counting>(sheet: &OpenedSheet<C>) -> Option<usize>
 pub fn first_wrong_type<C: Counting>(sheet: &OpenedSheet<C>) -> Option<usize>
     ensures { FirstFailure (λ n. TypesFit (C.Counting.operations sheet.now.counting) (types_of sheet.now.tables) (node_at (elements sheet.now.tables.nodes) n)) (length (elements sheet.now.tables.nodes)) result }
 {
-    first_mistyped(&sheet.counting(), sheet.tables())
+    first_mistyped(sheet)
 }
