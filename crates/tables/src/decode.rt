@@ -33,13 +33,13 @@ pub fn tuple_of(count: u8, bytes: Quad) -> Option<Tuple<u8>>
 {
     if count == 0 {
         return match bytes {
-            Quad(255, 255, 255, 255) => Some(Tuple::Empty),
+            Quad(255, 255, 255, 255) => Some(Tuple(None)),
             _ => None,
         };
     }
     let items = used(bytes)?;
     if items.count() == count as usize {
-        Some(Tuple::Of(items))
+        Some(Tuple(Some(items)))
     } else {
         None
     }

@@ -19,10 +19,7 @@ fn items_below(limit: usize, items: &Items<u8>) -> bool
 pub fn tuple_below(limit: usize, tuple: &Tuple<u8>) -> bool
     ensures { result ≡ range.below limit (parts tuple.now) }
 {
-    match tuple {
-        Tuple::Empty => true,
-        Tuple::Of(items) => items_below(limit, items),
-    }
+    tuple.all(|x| usize::from(x) < limit)
 }
 
 /// Whether an item is in range, where there are so many names.
@@ -63,7 +60,9 @@ pub fn node_fits(names: usize, nodes: usize, node: &Node) -> bool
             channel,
             names: bound,
             next,
-        } => { usize::from(channel) < names && tuple_below(names, &bound) && usize::from(next) < nodes }
+        } => {
+            usize::from(channel) < names && tuple_below(names, &bound) && usize::from(next) < nodes
+        }
         Node::Both { first, second } => usize::from(first) < nodes && usize::from(second) < nodes,
         Node::Copy { next } => usize::from(next) < nodes,
         Node::New { name, next } => usize::from(name) < names && usize::from(next) < nodes,

@@ -120,7 +120,7 @@ impl SheetType {
     {
         match self {
             SheetType::Channel(channel) => channel.components,
-            _ => Tuple::Empty,
+            _ => Tuple(None),
         }
     }
 
