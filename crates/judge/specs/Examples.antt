@@ -7,7 +7,6 @@ use Rattle.fault.specs.declared.items.Items.TheVariants.{One, Two}
 use Rattle.fault.specs.declared.label.Label.{Label}
 use Rattle.fault.specs.declared.fault.Fault.{Fault}
 use Rattle.fault.specs.declared.fault.Fault.TheVariants.{WrongType, Escapes, NotCopyable, RootOwes}
-use Rattle.tables.specs.declared.tuple.Tuple.TheVariants.{Empty, Of}
 use Rattle.tables.specs.declared.tables.Entry.{Entry}
 use Rattle.tables.specs.declared.tables.Item.{Item}
 use Rattle.tables.specs.declared.tables.Item.TheVariants.{Name, Index}
