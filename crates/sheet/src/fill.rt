@@ -160,9 +160,9 @@ pub fn fill(bytes: &[u8], basis: Basis, totals: Census) -> Result<Tables, usize>
         let Some((next, rest)) = read(left) else {
             return Err(place);
         };
-        if add(&mut tables, next, basis, totals).is_none() {
+        let Some(()) = add(&mut tables, next, basis, totals) else {
             return Err(place);
-        }
+        };
         place += 1;
         left = rest;
     }
