@@ -26,7 +26,7 @@ fn fill_item(arguments: &Tuple<u8>, level: usize, item: Item) -> Item
             if usize::from(arrows) == level {
                 arguments
                     .get(usize::from(position) - 1)
-                    .map_or(item, |name| Item::Name(name))
+                    .map_or(item, Item::Name)
             } else {
                 item
             }
