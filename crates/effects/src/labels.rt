@@ -42,15 +42,5 @@ pub fn mentions(label: &Label<u8>, name: u8) -> bool
 pub fn mentions_any(label: &Label<u8>, names: &Tuple<u8>) -> bool
     ensures { result ≡ meets (parts names.now) (list label.now.items) }
 {
-    match names {
-        Tuple::Empty => false,
-        Tuple::Of(Items::One(a)) => mentions(label, *a),
-        Tuple::Of(Items::Two(a, b)) => mentions(label, *a) || mentions(label, *b),
-        Tuple::Of(Items::Three(a, b, c)) => {
-            mentions(label, *a) || mentions(label, *b) || mentions(label, *c)
-        }
-        Tuple::Of(Items::Four(a, b, c, d)) => {
-            mentions(label, *a) || mentions(label, *b) || mentions(label, *c) || mentions(label, *d)
-        }
-    }
+    names.any(|name| mentions(label, name))
 }

@@ -9,7 +9,6 @@ ghost use Rattle.meaning.specs.Types.{types_of};
 ghost use Rattle.meaning.specs.Uses.{ArgumentsFit, TypesFit};
 
 use crate::equal::same_type;
-use crate::fill::first_names;
 use crate::lookup::{number_at, type_at, type_of};
 use counting::Counting;
 use sheet::OpenedSheet;
@@ -64,7 +63,7 @@ fn argument_fits<C: Counting>(
         SheetType::Pure => is_pure(&type_at(types, own)),
         SheetType::Public => is_public(&type_at(types, own)),
         SheetType::Channel(found) => {
-            let earlier = first_names(names, place);
+            let earlier = names.first(place);
             let component = number_at(&found.components, place) as usize;
             same_type(&sheet.counting(), types, &earlier, 1, own, component)
         }

@@ -70,11 +70,11 @@ returns-in-Channel g c =
     let has = c.type_of-own.ensures ∙ ap (number t) c.number_at.ensures in
     let is = c.in-Channel.ensures ∙ ap (λ xs. type_at xs c.type_of.result) e ∙ ap (type_at types) c.type_of.ensures in
     let component = c.number_at-component.result in
-    let earlier = parts c.first_names-earlier.result in
+    let earlier = parts c.first-earlier.result in
     let same =
     subst (λ k. Decides c.same_type.result (SameType (g.C.Counting.operations k) (type_within c.as_slice-types.result.now 4 own) (fill_type earlier 1 (type_within c.as_slice-types.result.now 3 component))))
     c.counting.ensures c.same_type.ensures in
     by_sheet K t c.args.sheet.now.tables c.same_type.result c.args.channel (parts c.args.names) c.args.place c.tables-tables.ensures.value
     (fits_channel K t c.same_type.result own c.args.channel (parts c.args.names) c.args.place has c.in-Channel.found earlier component is
-    c.first_names-earlier.ensures c.number_at-component.ensures
+    c.first-earlier.ensures c.number_at-component.ensures
     (subst (λ xs. Decides c.same_type.result (SameType K (type_within xs 4 own) (fill_type earlier 1 (type_within xs 3 component)))) e same))
