@@ -10,13 +10,11 @@ ghost use Rattle.sheet.specs.declared.census.Class.TheVariants.{Entry as entry};
 
 use crate::census::{Census, Class};
 use crate::scan::class;
-use fault::{Items, Label};
 use records::record::{Record, read};
 use tables::basis::Basis;
 use tables::decode::{entry_of, node_of, tuple_of};
 use tables::range::{entry_fits, node_fits, tuple_below};
-use tables::table::Table;
-use tables::tables::{ChannelType, Entry, Item, Node, SheetType, Tables};
+use tables::tables::{ChannelType, Entry, Node, SheetType, Tables, no_entries};
 
 /// The type that a record means, as type number `own`, with no entries yet; none where it is out of range.
 fn type_of(given: Record, own: usize) -> Option<SheetType>
@@ -31,15 +29,9 @@ fn type_of(given: Record, own: usize) -> Option<SheetType>
             if !tuple_below(own, &components) {
                 return None;
             }
-            let filler = Entry {
-                label: Label {
-                    items: Items::One(Item::Name(0)),
-                },
-                amount: 0,
-            };
             Some(SheetType::Channel(ChannelType {
                 components,
-                entries: Table::new(filler),
+                entries: no_entries(),
             }))
         }
         _ => None,
