@@ -1,10 +1,10 @@
 -- Names in lists, and the way up from a node, for the tables of scope.
-use Rattle.std.proofs.Common.{◌≡◌, ℕ, zero, suc, ◌+◌, Bool, true, false, ◌||◌, eqb, List, [], ◌∷◌, ◌++◌, get_or, take, Some, None, Decides, Option, MatchOption, sym, refl, ap, ◌∙◌, subst, inl, inr, ⊎_elim, add-one, arith}
+use Rattle.std.proofs.Common.{◌≡◌, ℕ, zero, suc, ◌+◌, Bool, true, false, ◌||◌, eqb, List, [], ◌∷◌, ◌++◌, get_or, take, Some, None, Decides, Option, sym, refl, ap, ◌∙◌, subst, inl, inr, ⊎_elim, add-one, arith}
 use Rattle.std.specs.Option.{option_or, option_to_list}
 use Rattle.std.specs.Bool.{then_some}
 use Rattle.std.proofs.lemmas.Bool.{or_cases, or_left, or_right, eq-eqb, eqb-true, false≢true}
 use Rattle.std.proofs.lemmas.Bool.Decides.{not_from_Decides}
-use Rattle.fault.specs.Items.{nth, AnyAnswer}
+use Rattle.fault.specs.Items.{nth, any_in_turn, AnyAnswer}
 use Rattle.sheet.specs.Scope.{member, Any, Over}
 use Rattle.sheet.specs.Scope.Over.{nearest, beyond}
 
@@ -75,12 +75,11 @@ module _ (P : ℕ → Type 0) where
       let d = some x refl in
       (λ t. (x, refl, d.0 t), λ h. let same : h.0 ≡ x = cc in d.1 (subst P same h.2))
 
-  -- a test of each name
-  pub any_decides : {E : ℕ → Bool → Type 0} (xs : List ℕ) (r : Bool) → AnyAnswer E xs r → ((x : ℕ) (b : Bool) → E x b → Decides b (P x)) → Decides r (Any P xs)
-  any_decides [] r e tests = (λ t. absurd (false≢true (sym e ∙ t)), λ h. absurd (false≢true h.1))
-  any_decides (x ∷ xs) r (inl (h, e)) tests = (λ _. (x, or_left (eqb x x) (member x xs) (eq-eqb x x refl), (tests x true h).0 refl), λ _. e)
-  any_decides (x ∷ xs) r (inr (h, rest)) tests =
-      let d = any_decides xs r rest tests in (
+  any_tested : {E : ℕ → Bool → Type 0} (xs : List ℕ) (r : Bool) → any_in_turn E xs r → ((x : ℕ) (b : Bool) → E x b → Decides b (P x)) → Decides r (Any P xs)
+  any_tested [] r e tests = (λ t. absurd (false≢true (sym e ∙ t)), λ h. absurd (false≢true h.1))
+  any_tested (x ∷ xs) r (inl (h, e)) tests = (λ _. (x, or_left (eqb x x) (member x xs) (eq-eqb x x refl), (tests x true h).0 refl), λ _. e)
+  any_tested (x ∷ xs) r (inr (h, rest)) tests =
+      let d = any_tested xs r rest tests in (
         λ t. let a = d.0 t in (a.0, or_right (eqb a.0 x) (member a.0 xs) a.1, a.2),
         λ a.
             ⊎_elim
@@ -88,3 +87,22 @@ module _ (P : ℕ → Type 0) where
             (λ there. d.1 (a.0, there, a.2))
             (or_cases (eqb a.0 x) (member a.0 xs) a.1),
       )
+
+  -- a test of each name
+  pub any_decides : {E : ℕ → Bool → Type 0} (xs : List ℕ) (r : Bool) → AnyAnswer E xs r → ((x : ℕ) (b : Bool) → E x b → Decides b (P x)) → Decides r (Any P xs)
+  any_decides xs r a tests = any_tested xs r a.in_turn tests
+
+  -- one of the first names has P
+  pub any_first : (xs ys us : List ℕ) → xs ++ ys ≡ us → Any P xs → Any P us
+  any_first xs ys us e a = subst (Any P) e (a.0, member_append a.0 xs ys ∙ or_left (member a.0 xs) (member a.0 ys) a.1, a.2)
+
+  -- where none has, the others decide
+  pub others_decide : (xs ys us : List ℕ) (r : Bool) → xs ++ ys ≡ us → (Any P xs → ⊥) → Decides r (Any P ys) → Decides r (Any P us)
+  others_decide xs ys us r e none d = subst (λ k. Decides r (Any P k)) e (
+    λ t. let a = d.0 t in (a.0, member_append a.0 xs ys ∙ or_right (member a.0 xs) (member a.0 ys) a.1, a.2),
+    λ a.
+        ⊎_elim
+        (λ first. absurd (none (a.0, first, a.2)))
+        (λ there. d.1 (a.0, there, a.2))
+        (or_cases (member a.0 xs) (member a.0 ys) (sym (member_append a.0 xs ys) ∙ a.1)),
+  )

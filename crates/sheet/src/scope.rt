@@ -1,6 +1,5 @@
 //! Scope: a name is bound once at most, and used only below its binder.
 ghost use Rattle.std.specs.Prelude.{◌≡◌, ℕ, ◌<◌, ◌≤◌, true, false, ◌⊎◌, ◌++◌, length, Decides};
-ghost use Rattle.std.specs.Option.{option_to_list};
 ghost use Rattle.fault.specs.First.{Lowest};
 ghost use Rattle.tables.specs.Encoding.{parts};
 ghost use Rattle.tables.specs.Range.{all, node_fits};
@@ -13,15 +12,16 @@ use tables::tables::Node;
 use tables::tuple::Tuple;
 
 /// The names that a node uses: its channel, if it has one, and the others.
-fn names_used(node: &Node) -> (Option<u8>, Tuple<u8>)
-    ensures { option_to_list result.0 ++ parts result.1 ≡ uses node.now }
+fn names_used(node: &Node) -> (Tuple<u8>, Tuple<u8>)
+    ensures { parts result.0 ++ parts result.1 ≡ uses node.now }
 {
+    let none = Tuple(None);
     match node {
-        Node::Send { channel, names } => (Some(*channel), *names),
-        Node::Receive { channel, .. } => (Some(*channel), Tuple(None)),
-        Node::Test { left, right, .. } => (None, Tuple(Some(Items::Two(*left, *right)))),
-        Node::Begin { label, .. } | Node::End { label, .. } => (None, Tuple(Some(label.items))),
-        _ => (None, Tuple(None)),
+        Node::Send { channel, names } => (Tuple(Some(Items::One(*channel))), *names),
+        Node::Receive { channel, .. } => (Tuple(Some(Items::One(*channel))), none),
+        Node::Test { left, right, .. } => (none, Tuple(Some(Items::Two(*left, *right)))),
+        Node::Begin { label, .. } | Node::End { label, .. } => (none, Tuple(Some(label.items))),
+        _ => (none, none),
     }
 }
 
@@ -58,9 +58,10 @@ impl TreeChart<'_> {
     fn is_outside(&self, name: u8, n: usize) -> bool
         ensures { Decides result (Outside self.now.chart.now.binders self.now.chart.now.parents n name) }
     {
-        self.chart
-            .binder(usize::from(name))
-            .is_some_and(|b| !self.is_below(n, b))
+        let Some(binder) = self.chart.binder(usize::from(name)) else {
+            return false;
+        };
+        !self.is_below(n, binder)
     }
 
     /// Whether node number `n` binds a name twice, or one that a node with a lower number binds.
@@ -76,7 +77,14 @@ impl TreeChart<'_> {
         ensures { Decides result (Any (Outside self.now.chart.now.binders self.now.chart.now.parents n) (uses node.now)) }
     {
         let (channel, names) = names_used(node);
-        channel.is_some_and(|x| self.is_outside(x, n)) || names.any(|x| self.is_outside(x, n))
+        channel.any(|x| self.is_outside(x, n)) || names.any(|x| self.is_outside(x, n))
+    }
+
+    /// Whether something is wrong with the names of node number `n`.
+    fn is_misnamed(&self, node: &Node, n: usize) -> bool
+        ensures { Decides result (((repeats (binds node.now) ≡ true) ⊎ Any (Taken self.now.chart.now.binders n) (binds node.now)) ⊎ Any (Outside self.now.chart.now.binders self.now.chart.now.parents n) (uses node.now)) }
+    {
+        self.binds_wrongly(node, n) || self.uses_wrongly(node, n)
     }
 }
 
@@ -104,7 +112,7 @@ pub fn first_misnamed(nodes: &[Node]) -> Option<usize>
     let chart = Chart::new(nodes);
     let tree = TreeChart { chart: &chart };
     for (n, node) in nodes.iter().enumerate() {
-        if tree.binds_wrongly(node, n) || tree.uses_wrongly(node, n) {
+        if tree.is_misnamed(node, n) {
             return Some(n);
         }
     }
