@@ -10,6 +10,11 @@ list (Two a b) = a ∷ b ∷ []
 list (Three a b c) = a ∷ b ∷ c ∷ []
 list (Four a b c d) = a ∷ b ∷ c ∷ d ∷ []
 
+-- those of an optional one to four
+abbrev pub things : {T : Type 0} → Option (Items T) → List T
+things None = []
+things (Some items) = list items
+
 -- the one at a place, or none past the end
 abbrev pub nth : {T : Type 0} → List T → ℕ → Option T
 nth [] i = None

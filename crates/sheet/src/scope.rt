@@ -92,14 +92,15 @@ impl TreeChart<'_> {
 fn has_repeats(names: &Tuple<u8>) -> bool
     ensures { result ≡ repeats (parts names.now) }
 {
-    match names.0 {
-        None | Some(Items::One(_)) => false,
-        Some(Items::Two(a, b)) => a == b,
-        Some(Items::Three(a, b, c)) => a == b || a == c || b == c,
-        Some(Items::Four(a, b, c, d)) => {
-            a == b || a == c || a == d || b == c || b == d || c == d
+    let mut left = names.0;
+    while let Some(items) = left {
+        let (first, others) = items.split_first();
+        if Tuple(others).any(|x| x == first) {
+            return true;
         }
+        left = others;
     }
+    false
 }
 
 /// The first node that binds a name already bound, or uses a bound name and does not stand below its binder.
