@@ -1,7 +1,8 @@
--- The front of a list.
-use Rattle.std.proofs.Common.{◌≡◌, ℕ, ◌-◌, ◌≤◌, List, length, take, drop, ap, ◌∙◌, arith}
-use Rattle.std.proofs.lemmas.List.{length-take-le}
+-- Lists of one thing.
+use Rattle.std.proofs.Common.{◌≡◌, ℕ, get_or, replicate, ⊎_elim, arith}
+use Rattle.std.proofs.lemmas.List.{get_or_past, get_or-replicate, length-replicate}
+use Rattle.std.proofs.lemmas.Bool.{cases_lt}
 
--- a part from the start is as long as was asked
-pub front_long : {A : Type 0} (n : ℕ) (xs : List A) → n ≤ length xs → length (take (n - 0) (drop 0 xs)) ≡ n
-front_long n xs h = let e : n - 0 ≡ n = omega arith in ap (λ k. length (take k xs)) e ∙ length-take-le n xs h
+-- each place holds z, and so does each past the end, where z stands for what is missing
+pub all_same : (n m z : ℕ) → get_or (replicate n z) m z ≡ z
+all_same n m z = ⊎_elim (λ l. get_or-replicate n m z z l) (λ l. get_or_past (replicate n z) m z (omega (arith, length-replicate n z))) (cases_lt m n)

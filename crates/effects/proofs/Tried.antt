@@ -16,8 +16,6 @@ use Rattle.effects.specs.Found.{bad, fails, asks, brought, tried, FirstIn, First
 use Rattle.effects.specs.Rows.{blank, places}
 use Rattle.effects.specs.Steps.{gives, own_at, step_by, Amounts}
 use Rattle.effects.specs.declared.found.Found.{Found}
-use Rattle.effects.specs.declared.found.Place.{Place}
-use Rattle.effects.specs.declared.found.Place.TheVariants.{Root, At}
 use Rattle.effects.specs.declared.row.Row.{Row}
 use Rattle.effects.proofs.Naming.{labels_alike, gives_other}
 use Rattle.effects.proofs.Steps.{step_alike, amount_past}
@@ -111,9 +109,9 @@ module _ (K : Operations) (W : Laws K) (all : List Node) (table : List Row) (roo
         (cases_lt n (length all))
 
     -- so nothing is at fault there
-    good_everywhere : (p : Place) → fails K all L A p ≡ false
-    good_everywhere Root = ap (λ v. not (eqb v 0)) (nothing_from (length all) 0 (omega arith))
-    good_everywhere (At n) = ap (bad K (node_at all n) L) (nothing_from (length all) n (omega arith))
+    good_everywhere : (p : Option ℕ) → fails K all L A p ≡ false
+    good_everywhere None = ap (λ v. not (eqb v 0)) (nothing_from (length all) 0 (omega arith))
+    good_everywhere (Some n) = ap (bad K (node_at all n) L) (nothing_from (length all) n (omega arith))
 
   pub all_tried : (A : Label ℕ → ℕ → ℕ) → ((L : Label ℕ) → Amounts K all table L (A L)) → (r : Option Found) → FirstIn K all A (tried all table (8 * length all)) r → FirstOf K all A r
   all_tried A a None h = λ L p. ⊎_elim (λ m. h L m p) (λ n. good_everywhere L (A L) (a L) n p) (in_or_not L (tried all table (8 * length all)))

@@ -5,17 +5,17 @@ use Rattle.effects.proofs.Sheets.{opened_amounts}
 use Rattle.effects.proofs.prepare.Goals as goal
 
 pub fill_rows-requires : goal.fill_rows-requires
-fill_rows-requires g c = omega (arith, c.as_slice-3.ensures.within, c.requires.enough)
+fill_rows-requires g c =
+    let few = (g.met.C.Sheets.sound c.args.sheet.now.sheet).limited.nodes in
+    omega (arith, few, ap (λ (t : Tables). length (elements t.nodes)) c.requires.held, c.requires.enough)
 
 pub returns : goal.returns
 returns g c =
     let s = c.args.sheet.now.sheet in
     let v = g.C.Sheets.own s in
-    let held = c.requires.held in
-    let room : 8 * length c.as_slice-3.result.now ≤ length c.fill_rows.new.rows = omega (arith, c.as_slice-3.ensures.within, c.requires.enough, c.fill_rows.auto.rows) in
-    opened_amounts (g.C.Counting.operations v) (g.met.C.Counting.lawful v) (g.C.Sheets.held s) (g.met.C.Sheets.sound s)
+    let sound = g.met.C.Sheets.sound s in
+    let few = sound.limited.nodes in
+    let room : 8 * length (elements (g.C.Sheets.held s).nodes) ≤ length c.fill_rows.new.rows = omega (arith, few, c.requires.enough, c.fill_rows.auto.rows) in
+    opened_amounts (g.C.Counting.operations v) (g.met.C.Counting.lawful v) (g.C.Sheets.held s) sound
     c.full_right.result (c.full_right.ensures ∙ ap (λ x. (g.C.Counting.operations x).full) c.counting.ensures)
-    c.as_slice.result.now (c.as_slice.ensures.value ∙ ap (λ (x : Tables). elements x.types) held)
-    c.as_slice-2.result.now (c.as_slice-2.ensures.value ∙ ap (λ (x : Tables). elements x.names) held)
-    c.as_slice-3.result.now (c.as_slice-3.ensures.value ∙ ap (λ (x : Tables). elements x.nodes) held)
-    c.fill_rows.new.rows room c.fill_rows.ensures
+    c.args.tables.now c.requires.held c.fill_rows.new.rows room c.fill_rows.ensures
