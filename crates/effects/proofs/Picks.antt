@@ -40,7 +40,7 @@ module _ (K : Operations) (all : List Node) (L : Label ℕ) (A : ℕ → ℕ) wh
 
   pub highest_none : (o : Option ℕ) (a : ℕ) → LastBad (λ n. bad K (node_at all n) L (A n)) (length all) o → a ≡ A (node_of o) → a ≡ 0 → Highest K all L A None
   highest_none None a h e z = elim [ None ↦ ap not (eq-eqb (A 0) 0 (sym e ∙ z)) | Some m ↦ last_good 0 (λ k p q. h k q) m (omega arith) ]
-  highest_none (Some k) a h e z = 
+  highest_none (Some k) a h e z =
       let some = (and_parts (not (eqb (A k) 0)) (meets (binds (node_at all k)) (list L.items) || uncopyable K (A k) (node_at all k)) h.1).0 in
       absurd (both_ways (eqb (A k) 0) (not-true (eqb (A k) 0) some) (eq-eqb (A k) 0 (sym e ∙ z)))
 

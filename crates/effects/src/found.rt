@@ -17,12 +17,7 @@ pub struct Found {
 fn comes_sooner(one: &Found, other: &Found) -> bool
     ensures { result ≡ sooner one.now other.now }
 {
-    match (one.place, other.place) {
-        (Some(m), Some(n)) => n < m || n == m && is_before(&one.label, &other.label),
-        (Some(_), None) => true,
-        (None, Some(_)) => false,
-        (None, None) => is_before(&one.label, &other.label),
-    }
+    other.place < one.place || other.place == one.place && is_before(&one.label, &other.label)
 }
 
 /// The one that is told first, of the best so far and another.

@@ -1,5 +1,5 @@
 //! The work rows: eight a node.
-ghost use Rattle.std.specs.Prelude.{◌≡◌, ◌*◌, ◌≤◌, [], ◌∷◌, map, length, replicate, slice_index_or};
+ghost use Rattle.std.specs.Prelude.{◌≡◌, ℕ, ◌*◌, ◌<◌, ◌≤◌, map, length, replicate, slice_index_or};
 ghost use Rattle.calculus.specs.Effects.{named as name_of};
 ghost use Rattle.tables.specs.Elements.{elements};
 ghost use Rattle.tables.specs.Encoding.{parts};
@@ -10,6 +10,7 @@ use crate::row::Row;
 use crate::work::ROWS;
 use fault::{Items, Label};
 use sheet::types::entries_of;
+use std::array;
 use tables::tables::{Entry, Item, Node, Tables};
 use tables::tuple::Tuple;
 
@@ -86,6 +87,35 @@ fn carried(tables: &Tables, channel: u8) -> &[Entry]
     entries_of(tables.types.as_slice(), type_of(tables, channel))
 }
 
+/// The eight rows of a node: those of what its message carries, or one full right, and then rows of nothing.
+fn node_rows(full: u32, tables: &Tables, node: &Node) -> [Row; 8]
+    ensures size { length result ≡ 8 }
+    ensures rows { (j : ℕ) → j < 8 → slice_index_or result j blank ≡ slice_index_or (rows_of full (elements tables.now.types) (elements tables.now.names) node.now) j blank }
+{
+    match *node {
+        Node::Send { channel, names } | Node::Receive { channel, names, .. } => {
+            entry_rows(carried(tables, channel), &names)
+        }
+        Node::Begin { label, .. } | Node::End { label, .. } => {
+            let mut rows = [blank_row(); 8];
+            rows[0] = Row {
+                label,
+                amount: full,
+            };
+            rows
+        }
+        _ => [blank_row(); 8],
+    }
+}
+
+/// The rows of what a message with these names carries, and then rows of nothing.
+fn entry_rows(all: &[Entry], names: &Tuple<u8>) -> [Row; 8]
+    ensures size { length result ≡ 8 }
+    ensures rows { (j : ℕ) → j < 8 → slice_index_or result j blank ≡ slice_index_or (map (entry_row (parts names.now)) all.now) j blank }
+{
+    array::from_fn(|j| entry_at(all, names, j))
+}
+
 /// Row `j` of what a message with these names carries.
 fn entry_at(all: &[Entry], names: &Tuple<u8>, j: usize) -> Row
     ensures { result ≡ slice_index_or (map (entry_row (parts names.now)) all.now) j blank }
@@ -96,39 +126,13 @@ fn entry_at(all: &[Entry], names: &Tuple<u8>, j: usize) -> Row
     }
 }
 
-/// Row `j` of a full right.
-fn right_at(label: Label<u8>, full: u32, j: usize) -> Row
-    ensures { result ≡ slice_index_or (record { label = label; amount = full } ∷ []) j blank }
-{
-    match j {
-        0 => Row {
-            label,
-            amount: full,
-        },
-        _ => blank_row(),
-    }
-}
-
-/// Row `j` of a node.
-fn node_row(full: u32, tables: &Tables, node: &Node, j: usize) -> Row
-    ensures { result ≡ slice_index_or (rows_of full (elements tables.now.types) (elements tables.now.names) node.now) j blank }
-{
-    match *node {
-        Node::Send { channel, names } | Node::Receive { channel, names, .. } => {
-            entry_at(carried(tables, channel), &names, j)
-        }
-        Node::Begin { label, .. } | Node::End { label, .. } => right_at(label, full, j),
-        _ => blank_row(),
-    }
-}
-
 /// Writes the rows of all nodes.
 pub(crate) fn fill_rows(full: u32, tables: &Tables, rows: &mut [Row])
     requires { 8 * length (elements tables.now.nodes) ≤ length rows.old }
     ensures { Filled full (elements tables.now.types) (elements tables.now.names) (elements tables.now.nodes) rows.new (8 * length (elements tables.now.nodes)) }
 {
     let nodes = tables.nodes.as_slice();
-    for i in 0..ROWS * nodes.len() {
-        rows[i] = node_row(full, tables, &nodes[i / ROWS], i % ROWS);
+    for (n, node) in nodes.iter().enumerate() {
+        rows[ROWS * n..ROWS * n + ROWS].copy_from_slice(&node_rows(full, tables, node));
     }
 }

@@ -21,8 +21,8 @@ loop-n-preserved g c =
     let within : n < length nodes = omega arith in (
       length-set c.loop-n.amounts n c.node_amount.result ∙ c.loop-n.invariant.0,
       λ A a.
-      let after : (m : ℕ) → n < m → get_or c.loop-n.amounts m 0 ≡ A m = λ m l. c.loop-n.invariant.1 A a m (omega arith) in
-      let same = amount_from K nodes rows L A a c.loop-n.amounts n within after in
-      filled_more A c.loop-n.amounts n c.node_amount.result (omega (arith, c.args.self.now.few, c.loop-n.invariant.0)) after
-      (c.node_amount.ensures (a.own_fits n within) (below_ceiling same (a.fits n)) ∙ same),
+          let after : (m : ℕ) → n < m → get_or c.loop-n.amounts m 0 ≡ A m = λ m l. c.loop-n.invariant.1 A a m (omega arith) in
+          let same = amount_from K nodes rows L A a c.loop-n.amounts n within after in
+          filled_more A c.loop-n.amounts n c.node_amount.result (omega (arith, c.args.self.now.few, c.loop-n.invariant.0)) after
+          (c.node_amount.ensures (a.own_fits n within) (below_ceiling same (a.fits n)) ∙ same),
     )
