@@ -1,5 +1,5 @@
 -- Faults that are found among the amounts, label by label, and the first of them.
-use Rattle.std.specs.Prelude.{◌≡◌, ℕ, zero, suc, ◌/◌, ◌<◌, Bool, true, false, cond, not, ◌&&◌, ◌||◌, ◌⊎◌, List, [], ◌∷◌, ◌++◌, Some, None, Option, ◌==◌, nat_lt, slice_index_or}
+use Rattle.std.specs.Prelude.{◌≡◌, ℕ, zero, suc, ◌<◌, Bool, true, false, cond, not, ◌&&◌, ◌||◌, ◌⊎◌, List, [], ◌∷◌, Some, None, Option, ◌==◌, nat_lt}
 use Rattle.calculus.specs.Countings.{Operations}
 use Rattle.calculus.specs.Lists.{◌∈◌}
 use Rattle.fault.specs.Items.{list}
@@ -8,7 +8,7 @@ use Rattle.tables.specs.declared.tables.Node.{Node}
 use Rattle.tables.specs.declared.tables.Node.TheVariants.{Stop, Send, Receive, Both, Copy, New, Test, Begin, End}
 use Rattle.sheet.specs.Scope.{member, binds}
 use Rattle.sheet.specs.Tree.{node_at}
-use Rattle.effects.specs.Rows.{blank}
+use Rattle.effects.specs.Rows.{places}
 use Rattle.effects.specs.declared.found.Found.{Found}
 use Rattle.effects.specs.declared.row.Row.{Row}
 
@@ -109,11 +109,16 @@ asks (Test left right same other) = false
 asks (Begin l next) = false
 asks (End l next) = true
 
--- the label that row i brings in, if any
-abbrev pub brought : List Node → List Row → ℕ → List (Label ℕ)
-brought all table i = cond (asks (node_at all (i / 8)) && not ((slice_index_or table i blank).amount == 0)) ((slice_index_or table i blank).label ∷ []) []
+-- the label of a row that has an amount, before those of S
+abbrev pub with_row : Row → List (Label ℕ) → List (Label ℕ)
+with_row r S = cond (r.amount == 0) S (r.label ∷ S)
 
--- the labels that the first i rows bring in
+-- the labels of the rows that have an amount, before those of S
+abbrev pub brought : List Row → List (Label ℕ) → List (Label ℕ)
+brought [] S = S
+brought (r ∷ rs) S = brought rs (with_row r S)
+
+-- the labels that the rows of the first n nodes bring in
 abbrev pub tried : List Node → List Row → ℕ → List (Label ℕ)
 tried all table zero = []
-tried all table (suc i) = brought all table i ++ tried all table i
+tried all table (suc n) = cond (asks (node_at all n)) (brought (places table n) (tried all table n)) (tried all table n)

@@ -33,7 +33,7 @@ fn joined<C: Counting>(counting: &C, a: u32, b: u32) -> u32
 
 impl<'a, C: Counting> Work<'a, C> {
     /// The rows of a node.
-    fn node_rows(&self, n: usize) -> &[Row]
+    pub(crate) fn node_rows(&self, n: usize) -> &[Row]
         requires { n < length self.now.nodes.now }
         ensures { result.now ≡ places self.now.rows.now n }
     {

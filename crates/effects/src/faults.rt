@@ -1,17 +1,18 @@
 //! The first fault of the amounts.
-ghost use Rattle.std.specs.Prelude.{◌≡◌, ℕ, ◌*◌, ◌<◌, ◌≤◌, List, ◌∷◌, ◌++◌, length, ◌==◌, slice_index};
+ghost use Rattle.std.specs.Prelude.{◌≡◌, ℕ, ◌≤◌, List, ◌∷◌, length, ◌==◌, slice_index};
 ghost use Rattle.fault.specs.Items.{list};
 ghost use Rattle.fault.specs.declared.label.Label.{Label as L};
 ghost use Rattle.sheet.specs.Scope.{binds};
 ghost use Rattle.sheet.specs.Tree.{node_at};
 ghost use Rattle.effects.specs.Faults.{fault_at};
-ghost use Rattle.effects.specs.Found.{meets, uncopyable, bad, asks, LastBad, Highest, FirstIn, FirstOf, brought};
+ghost use Rattle.effects.specs.Found.{meets, uncopyable, bad, asks, LastBad, Highest, FirstIn, FirstOf, with_row, brought};
 ghost use Rattle.effects.specs.Steps.{Amounts};
 
 use crate::amounts::amount_in;
 use crate::found::{Found, better};
 use crate::labels::mentions_any;
-use crate::work::{ROWS, Work};
+use crate::row::Row;
+use crate::work::Work;
 use counting::Counting;
 use fault::{Fault, Label};
 use sheet::chart::names_bound;
@@ -80,19 +81,25 @@ impl<'a, C: Counting> Work<'a, C> {
         }
     }
 
-    /// The first fault of the labels so far and the one that row `i` brings in, if any.
-    fn try_row(&self, i: usize, best: Option<Found>) -> Option<Found>
-        requires { i < length self.now.rows.now }
-        ensures { (A : L ℕ → ℕ → ℕ) → ((l : L ℕ) → Amounts (C.Counting.operations self.now.counting.now) self.now.nodes.now self.now.rows.now l (A l)) → (S : List (L ℕ)) → FirstIn (C.Counting.operations self.now.counting.now) self.now.nodes.now A S best → FirstIn (C.Counting.operations self.now.counting.now) self.now.nodes.now A (brought self.now.nodes.now self.now.rows.now i ++ S) result }
+    /// The first fault of the labels so far and that of a row; a row with no amount brings none in.
+    fn try_row(&self, row: &Row, best: Option<Found>) -> Option<Found>
+        ensures { (A : L ℕ → ℕ → ℕ) → ((l : L ℕ) → Amounts (C.Counting.operations self.now.counting.now) self.now.nodes.now self.now.rows.now l (A l)) → (S : List (L ℕ)) → FirstIn (C.Counting.operations self.now.counting.now) self.now.nodes.now A S best → FirstIn (C.Counting.operations self.now.counting.now) self.now.nodes.now A (with_row row.now S) result }
     {
-        if !is_asking(&self.nodes[i / ROWS]) {
-            return best;
-        }
-        let row = self.rows[i];
         if row.amount == 0 {
-            return best;
+            best
+        } else {
+            self.try_label(&row.label, best)
         }
-        self.try_label(&row.label, best)
+    }
+
+    /// The first fault of the labels so far and those that the rows bring in.
+    fn try_rows(&self, rows: &[Row], mut best: Option<Found>) -> Option<Found>
+        ensures { (A : L ℕ → ℕ → ℕ) → ((l : L ℕ) → Amounts (C.Counting.operations self.now.counting.now) self.now.nodes.now self.now.rows.now l (A l)) → (S : List (L ℕ)) → FirstIn (C.Counting.operations self.now.counting.now) self.now.nodes.now A S best → FirstIn (C.Counting.operations self.now.counting.now) self.now.nodes.now A (brought rows.now S) result }
+    {
+        for row in rows {
+            best = self.try_row(row, best);
+        }
+        best
     }
 
     /// The first fault of all labels, or none: those that no row brings in have no amount anywhere.
@@ -100,8 +107,10 @@ impl<'a, C: Counting> Work<'a, C> {
         ensures { (A : L ℕ → ℕ → ℕ) → ((l : L ℕ) → Amounts (C.Counting.operations self.now.counting.now) self.now.nodes.now self.now.rows.now l (A l)) → FirstOf (C.Counting.operations self.now.counting.now) self.now.nodes.now A result }
     {
         let mut best = None;
-        for i in 0..self.rows.len() {
-            best = self.try_row(i, best);
+        for (n, node) in self.nodes.iter().enumerate() {
+            if is_asking(node) {
+                best = self.try_rows(self.node_rows(n), best);
+            }
         }
         best
     }

@@ -1,5 +1,4 @@
-use Rattle.std.proofs.Common.{◌≡◌, ◌*◌, ◌≤◌, length, replicate, ap, ◌∙◌, arith}
-use Rattle.tables.specs.Elements.{elements}
+use Rattle.std.proofs.Common.{replicate, ap, ◌∙◌, arith}
 use Rattle.effects.specs.Rows.{blank}
 use Rattle.effects.proofs.Sheets.{amounts_same}
 use Rattle.effects.proofs.amount_of.Goals as goal

@@ -1,8 +1,7 @@
-use Rattle.std.proofs.Common.{◌≡◌, ◌-◌, ◌*◌, ◌/◌, ◌%◌, ◌<◌, ◌≤◌, List, length, get_or, sym, ap, ◌∙◌, ap₂, ⊎_elim, arith}
+use Rattle.std.proofs.Common.{◌≡◌, ◌-◌, ◌*◌, ◌/◌, ◌%◌, ◌<◌, ◌≤◌, List, length, get_or, ap, ◌∙◌, ap₂, ⊎_elim, arith}
 use Rattle.std.proofs.lemmas.Bool.{cases_lt}
 use Rattle.tables.specs.Elements.{elements}
 use Rattle.tables.specs.declared.tables.Node.{Node}
-use Rattle.tables.specs.declared.tables.Node.TheVariants.{Stop}
 use Rattle.sheet.specs.Tree.{node_at}
 use Rattle.effects.specs.Rows.{blank, rows_of}
 use Rattle.effects.proofs.Lists.{before_part, in_part}

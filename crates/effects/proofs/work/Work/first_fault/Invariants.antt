@@ -4,7 +4,7 @@ use Rattle.effects.specs.Found.{FirstIn, tried}
 use Rattle.effects.specs.Steps.{Amounts}
 use Rattle.effects.proofs.work.Work.first_fault.Given as goal
 
-abbrev pub invariant-loop-i : goal.invariant-loop-i
-invariant-loop-i g l =
+abbrev pub invariant-loop-n : goal.invariant-loop-n
+invariant-loop-n g l =
     (A : Label ℕ → ℕ → ℕ) → ((M : Label ℕ) → Amounts (g.C.Counting.operations l.self.counting.now) l.self.nodes.now l.self.rows.now M (A M)) →
-    FirstIn (g.C.Counting.operations l.self.counting.now) l.self.nodes.now A (tried l.self.nodes.now l.self.rows.now l.i) l.best
+    FirstIn (g.C.Counting.operations l.self.counting.now) l.self.nodes.now A (tried l.self.nodes.now l.self.rows.now l.n) l.best

@@ -1,4 +1,4 @@
-use Rattle.std.proofs.Common.{◌≡◌, ◌≤◌, length, get_or, take, add-one, sym, ap, ◌∙◌, ap₂, subst, le_trans, arith}
+use Rattle.std.proofs.Common.{◌≡◌, ◌≤◌, take, add-one, sym, ap, ◌∙◌, ap₂, subst, le_trans}
 use Rattle.std.proofs.lemmas.List.{take_all}
 use Rattle.calculus.specs.Joins.{join_over}
 use Rattle.effects.specs.Steps.{gives}

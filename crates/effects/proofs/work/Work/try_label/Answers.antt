@@ -1,4 +1,4 @@
-use Rattle.std.proofs.Common.{ℕ, ◌∷◌, get_or, Some, None, Option, sym, subst}
+use Rattle.std.proofs.Common.{◌∷◌, get_or, Some, None, Option, sym, subst}
 use Rattle.effects.specs.Found.{FirstIn}
 use Rattle.effects.specs.declared.found.Found.{Found}
 use Rattle.effects.proofs.Picks.{first_pick, first_keep, highest_same}
