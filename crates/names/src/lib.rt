@@ -10,21 +10,20 @@ ghost use Rattle.meaning.specs.Failures.{FirstFailure};
 ghost use Rattle.meaning.specs.Scopes.{free, scope_for};
 ghost use Rattle.meaning.specs.Types.{types_of};
 
+mod charted;
 mod forms;
 mod free;
 mod scopes;
 
-use crate::forms::find_ill_formed;
-use crate::free::find_free_not_public;
-use sheet::{Chart, OpenedSheet, Sheets};
+use crate::charted::Charted;
+use sheet::{OpenedSheet, Sheets};
 
 /// The first free name that is not public, or none.
 pub fn first_free_not_public<C: Sheets>(sheet: &OpenedSheet<C>) -> Option<usize>
     ensures { FirstFailure (λ x. in_scope (free (C.Sheets.held sheet.now.sheet)) x ≡ true → types_of (C.Sheets.held sheet.now.sheet) x ≡ public) (length (elements (C.Sheets.held sheet.now.sheet).names)) result }
 {
     let tables = sheet.tables();
-    let chart = Chart::new(tables.nodes.as_slice());
-    find_free_not_public(&tables, &chart)
+    Charted::new(&tables).find_free_not_public()
 }
 
 /// The first name whose type is not well formed in its scope, or none.
@@ -32,6 +31,5 @@ pub fn first_ill_formed<C: Sheets>(sheet: &OpenedSheet<C>) -> Option<usize>
     ensures { FirstFailure (λ x. WellFormed (scope_for (C.Sheets.held sheet.now.sheet) x) (types_of (C.Sheets.held sheet.now.sheet) x)) (length (elements (C.Sheets.held sheet.now.sheet).names)) result }
 {
     let tables = sheet.tables();
-    let chart = Chart::new(tables.nodes.as_slice());
-    find_ill_formed(&tables, &chart)
+    Charted::new(&tables).find_ill_formed()
 }

@@ -14,36 +14,27 @@ pub returns-then-levels-eq0 : goal.returns-then-levels-eq0
 returns-then-levels-eq0 t c =
     holds (formed_none (marked c.args.scope.now) (outer c.args.counts.now) c.args.types.now c.args.levels c.args.at c.if-levels-eq0.true)
 
-pub entries_fit-requires : goal.entries_fit-requires
-entries_fit-requires t c = c.requires.scope
-
 pub returns-then-not-entries_fit : goal.returns-then-not-entries_fit
 returns-then-not-entries_fit t c =
     let types = c.args.types.now in
     let Γ = marked c.args.scope.now in
     let before = outer c.args.counts.now in
     let x = type_at types c.args.at in
-    let same = pushed_outer c.args.levels c.count.result c.args.counts.now c.pushed.result c.if-levels-eq0.false c.requires.counts c.pushed.ensures.size c.pushed.ensures.each in
+    let same = pushed_outer c.args.levels c.count.result c.args.counts.now c.pushed.result c.if-levels-eq0.false c.requires c.pushed.ensures.size c.pushed.ensures.each in
     let tested = entries_tested Γ (outer c.pushed.result) before c.count.result (length (components x)) c.entries_of.result.now (entries x) c.entries_fit.result same
     (c.count.ensures ∙ ap length c.components_of-inner.ensures) c.entries_of.ensures c.entries_fit.ensures in
     fails (λ h. not_from_Decides c.entries_fit.result tested c.if-not-entries_fit.true (formed_entries types c.args.levels c.args.at c.if-levels-eq0.false Γ before h))
 
-pub loop-component-init : goal.loop-component-init
-loop-component-init t c =
+pub loop-place-init : goal.loop-place-init
+loop-place-init t c =
     let types = c.args.types.now in
     let Γ = marked c.args.scope.now in
     let before = outer c.args.counts.now in
     let x = type_at types c.args.at in
-    let same = pushed_outer c.args.levels c.count.result c.args.counts.now c.pushed.result c.if-levels-eq0.false c.requires.counts c.pushed.ensures.size c.pushed.ensures.each in
+    let same = pushed_outer c.args.levels c.count.result c.args.counts.now c.pushed.result c.if-levels-eq0.false c.requires c.pushed.ensures.size c.pushed.ensures.each in
     let tested = entries_tested Γ (outer c.pushed.result) before c.count.result (length (components x)) c.entries_of.result.now (entries x) c.entries_fit.result same
     (c.count.ensures ∙ ap length c.components_of-inner.ensures) c.entries_of.ensures c.entries_fit.ensures in
-    (omega arith, tested.0 c.if-not-entries_fit.false, λ i l. absurd (omega arith))
-
-pub is_formed-requires : goal.is_formed-requires
-is_formed-requires t c =
-    let counts = counts_in c.args.levels c.loop-component.place c.args.counts.now c.pushed-in-Some.result c.if-levels-eq0.false c.requires.counts c.pushed-in-Some.ensures.size c.pushed-in-Some.ensures.each in
-    let scope = c.requires.scope in
-    search rules
+    (tested.0 c.if-not-entries_fit.false, λ i l. absurd (omega arith))
 
 pub returns-then-not-is_formed : goal.returns-then-not-is_formed
 returns-then-not-is_formed t c =
@@ -51,40 +42,36 @@ returns-then-not-is_formed t c =
     let levels = c.args.levels in
     let Γ = marked c.args.scope.now in
     let before = outer c.args.counts.now in
-    let place = c.loop-component.place in
+    let place = c.loop-place.place in
     let inner = parts c.components_of-inner.result in
     let cs = components (type_at types c.args.at) in
-    let same = pushed_outer levels place c.args.counts.now c.pushed-in-Some.result c.if-levels-eq0.false c.requires.counts c.pushed-in-Some.ensures.size c.pushed-in-Some.ensures.each in
-    let tested = component_tested Γ (outer c.pushed-in-Some.result) before place (type_within types (levels - 1) c.in-Some.component) c.is_formed.result same c.is_formed.ensures in
-    let here = component_at inner cs place c.in-Some.component c.in-Some.ensures c.components_of-inner.ensures in
-    let within : place < length cs = omega (arith, nth_within inner place c.in-Some.component c.in-Some.ensures, ap length c.components_of-inner.ensures) in
+    let same = pushed_outer levels place c.args.counts.now c.pushed-in-loop-place.result c.if-levels-eq0.false c.requires c.pushed-in-loop-place.ensures.size c.pushed-in-loop-place.ensures.each in
+    let tested = component_tested Γ (outer c.pushed-in-loop-place.result) before place (type_within types (levels - 1) c.unwrap-component.result) c.is_formed.result same c.is_formed.ensures in
+    let here = component_at inner cs place c.unwrap-component.result (sym c.unwrap-component.ensures ∙ c.get.ensures) c.components_of-inner.ensures in
+    let within : place < length cs = omega (arith, nth_within inner place c.unwrap-component.result (sym c.unwrap-component.ensures ∙ c.get.ensures), ap length c.components_of-inner.ensures) in
     fails (λ h. not_from_Decides c.is_formed.result tested c.if-not-is_formed.true
     (subst (λ k. WellFormedInside Γ (push place before) (type_within types (levels - 1) k)) (sym here) (formed_components types levels c.args.at c.if-levels-eq0.false Γ before h place within)))
 
-pub loop-component-preserved : goal.loop-component-preserved
-loop-component-preserved t c =
+pub loop-place-preserved : goal.loop-place-preserved
+loop-place-preserved t c =
     let types = c.args.types.now in
     let levels = c.args.levels in
     let Γ = marked c.args.scope.now in
     let before = outer c.args.counts.now in
-    let place = c.loop-component.place in
+    let place = c.loop-place.place in
     let inner = parts c.components_of-inner.result in
     let cs = components (type_at types c.args.at) in
-    let same = pushed_outer levels place c.args.counts.now c.pushed-in-Some.result c.if-levels-eq0.false c.requires.counts c.pushed-in-Some.ensures.size c.pushed-in-Some.ensures.each in
-    let tested = component_tested Γ (outer c.pushed-in-Some.result) before place (type_within types (levels - 1) c.in-Some.component) c.is_formed.result same c.is_formed.ensures in
-    let here = component_at inner cs place c.in-Some.component c.in-Some.ensures c.components_of-inner.ensures in
-    let within = nth_within inner place c.in-Some.component c.in-Some.ensures in
-    let few = parts_few c.components_of-inner.result in
-    let four : place + 1 ≤ 4 = omega arith in (
-      four,
-      c.loop-component.invariant.1,
-      below_more (λ i. WellFormedInside Γ (push i before) (type_within types (levels - 1) (get_or cs i 0))) place c.loop-component.invariant.2
+    let same = pushed_outer levels place c.args.counts.now c.pushed-in-loop-place.result c.if-levels-eq0.false c.requires c.pushed-in-loop-place.ensures.size c.pushed-in-loop-place.ensures.each in
+    let tested = component_tested Γ (outer c.pushed-in-loop-place.result) before place (type_within types (levels - 1) c.unwrap-component.result) c.is_formed.result same c.is_formed.ensures in
+    let here = component_at inner cs place c.unwrap-component.result (sym c.unwrap-component.ensures ∙ c.get.ensures) c.components_of-inner.ensures in (
+      c.loop-place.invariant.0,
+      below_more (λ i. WellFormedInside Γ (push i before) (type_within types (levels - 1) (get_or cs i 0))) place c.loop-place.invariant.1
           (subst (λ k. WellFormedInside Γ (push place before) (type_within types (levels - 1) k)) here (tested.0 c.if-not-is_formed.false)),
     )
 
 pub returns : goal.returns
 returns t c =
     let cs = components (type_at c.args.types.now c.args.at) in
-    let past : length cs ≤ c.loop-component.place = omega (arith, nth_none (parts c.components_of-inner.result) c.loop-component.place c.in_default.ensures, ap length c.components_of-inner.ensures) in
-    holds (formed c.args.types.now c.args.levels c.args.at c.if-levels-eq0.false (marked c.args.scope.now) (outer c.args.counts.now) c.loop-component.invariant.1
-    (λ i l. c.loop-component.invariant.2 i (omega arith)))
+    let past : length cs ≤ c.loop-place.place = omega (arith, c.loop-place-test.false, c.count-place-end.ensures, ap length c.components_of-inner.ensures) in
+    holds (formed c.args.types.now c.args.levels c.args.at c.if-levels-eq0.false (marked c.args.scope.now) (outer c.args.counts.now) c.loop-place.invariant.0
+    (λ i l. c.loop-place.invariant.1 i (omega arith)))

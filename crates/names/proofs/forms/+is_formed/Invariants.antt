@@ -1,8 +1,7 @@
-use Rattle.std.proofs.Common.{◌-◌, ◌≤◌, length}
+use Rattle.std.proofs.Common.{◌-◌, length}
 use Rattle.std.specs.List.{AllByRecursion}
 use Rattle.calculus.specs.Scopes.{push, WellFormedEntry}
 use Rattle.tables.specs.Channels.{components, entries}
-use Rattle.tables.specs.Encoding.{parts}
 use Rattle.sheet.specs.Types.{type_at}
 use Rattle.meaning.specs.Types as meant
 use Rattle.names.specs.Marks.{marked, outer}
@@ -13,11 +12,7 @@ abbrev pub decreases-is_formed : goal.decreases-is_formed
 decreases-is_formed l = l.levels
 
 -- the entries fit, and the components so far
-abbrev pub invariant-loop-component : goal.invariant-loop-component
-invariant-loop-component l =
-    (l.place ≤ 4)
-    × AllByRecursion (λ e. WellFormedEntry (marked l.scope) (push (length (components (type_at l.types l.at))) (outer l.counts)) (meant.entry e)) (entries (type_at l.types l.at))
+abbrev pub invariant-loop-place : goal.invariant-loop-place
+invariant-loop-place l =
+    AllByRecursion (λ e. WellFormedEntry (marked l.scope) (push (length (components (type_at l.types l.at))) (outer l.counts)) (meant.entry e)) (entries (type_at l.types l.at))
     × PartsFit (marked l.scope) (outer l.counts) (meant.type_within l.types (l.levels - 1)) l.place (components (type_at l.types l.at))
-
-abbrev pub decreases-loop-component : goal.decreases-loop-component
-decreases-loop-component l = length (parts l.inner) - l.place

@@ -6,32 +6,29 @@ use Rattle.meaning.specs.Scopes.{earlier}
 use Rattle.names.specs.Marks.{marked}
 use Rattle.names.proofs.Charting.{binder_within}
 use Rattle.names.proofs.Climbing.{scope_unbound, scope_bound}
-use Rattle.names.proofs.scopes.scope_for.Goals as goal
+use Rattle.names.proofs.charted.Charted.scope_for.Goals as goal
 
 pub scope_at-marks-requires : goal.scope_at-marks-requires
 scope_at-marks-requires c =
     let x = c.args.x in
-    let e = sym (c.requires.charted.binders x c.requires.within) ∙ sym c.in-Some.ensures in
-    record {
-      charted = c.requires.charted;
-      within = omega (arith, binder_within (elements c.args.tables.now.nodes) x c.in-Some.binder e, c.requires.charted.few);
-    }
+    let e = sym (c.args.self.now.charted.binders x c.requires) ∙ sym c.in-Some.ensures in
+    omega (arith, binder_within (elements c.args.self.now.tables.now.nodes) x c.in-Some.binder e, c.args.self.now.charted.few)
 
 pub returns : goal.returns
 returns c =
-    let t = c.args.tables.now in
+    let t = c.args.self.now.tables.now in
     let x = c.args.x in
     let b = c.in-Some.binder in
     let marks = c.scope_at-marks.result in
     let names = c.count_before.ensures ∙ ap (earlier x) (c.bound_at-names.ensures ∙ ap (λ nodes. binds (node_at nodes b)) c.as_slice.ensures.value) in
     scope_bound t x b marks c.mark.new.marks
-    (sym (c.requires.charted.binders x c.requires.within) ∙ sym c.in-Some.ensures)
+    (sym (c.args.self.now.charted.binders x c.requires) ∙ sym c.in-Some.ensures)
     c.scope_at-marks.ensures
     (c.mark.auto.marks ∙ c.scope_at-marks.ensures.size)
     (λ y l. c.mark.ensures y (omega (arith, c.scope_at-marks.ensures.size)) ∙ ap (λ zs. member y zs || marked marks y) names)
 
 pub returns-in_default : goal.returns-in_default
 returns-in_default c =
-    scope_unbound c.args.tables.now c.args.x c.free_names.result
-    (sym (c.requires.charted.binders c.args.x c.requires.within) ∙ sym c.in_default.ensures)
-    c.free_names.ensures
+    scope_unbound c.args.self.now.tables.now c.args.x c.free_names.result
+    (sym (c.args.self.now.charted.binders c.args.x c.requires) ∙ sym c.in_default.ensures)
+    (record { size = c.free_names.ensures.size; each = c.free_names.ensures.each })
