@@ -202,21 +202,24 @@ module _ (types : List SheetType) (levels at : ℕ) (some : levels ≡ 0 → ⊥
 pub formed_none : (Γ : Scope) (before : ℕ → ℕ) (types : List SheetType) (levels at : ℕ) → levels ≡ 0 → WellFormedInside Γ before (type_within types levels at)
 formed_none Γ before types levels at e = subst (λ d. WellFormedInside Γ before (type_within types d at)) (sym e) tt
 
--- entries and components as they are tested: with counts in an array
-pub entries_tested : (Γ : Scope) (b d : ℕ → ℕ) (n m : ℕ) (es fs : List Entry) (r : Bool) → ((u : ℕ) → b u ≡ push n d u) → n ≡ m → es ≡ fs
-    → Decides r (AllByRecursion (λ e. WellFormedEntry Γ b (entry e)) es) → Decides r (AllByRecursion (λ e. WellFormedEntry Γ (push m d) (entry e)) fs)
-entries_tested Γ b d n m es fs r s en ee h =
+-- entries and components as they are tested: by equal marks, and with counts in an array
+pub entries_tested : (next scope : List Bool) → next ≡ scope → (b d : ℕ → ℕ) (n m : ℕ) (es fs : List Entry) (r : Bool) → ((u : ℕ) → b u ≡ push n d u) → n ≡ m → es ≡ fs
+    → Decides r (AllByRecursion (λ e. WellFormedEntry (marked next) b (entry e)) es) → Decides r (AllByRecursion (λ e. WellFormedEntry (marked scope) (push m d) (entry e)) fs)
+entries_tested next scope e b d n m es fs r s en ee h =
+    let Γ = marked scope in
     let same : (u : ℕ) → b u ≡ push m d u = λ u. s u ∙ ap (λ k. push k d u) en in
     subst (λ l. Decides r (AllByRecursion (λ e. WellFormedEntry Γ (push m d) (entry e)) l)) ee
     (Decides-like r
     (All-weaker _ _ (λ e. same_entry Γ Γ (λ y. refl) b (push m d) same (entry e)) es)
     (All-weaker _ _ (λ e. same_entry Γ Γ (λ y. refl) (push m d) b (λ u. sym (same u)) (entry e)) es)
-    h)
+    (subst (λ l. Decides r (AllByRecursion (λ e. WellFormedEntry (marked l) b (entry e)) es)) e h))
 
-pub component_tested : (Γ : Scope) (b d : ℕ → ℕ) (i : ℕ) (t : calculus.NameType) (r : Bool) → ((u : ℕ) → b u ≡ push i d u)
-    → Decides r (WellFormedInside Γ b t) → Decides r (WellFormedInside Γ (push i d) t)
-component_tested Γ b d i t r s h =
-    Decides-like r (same_inside Γ Γ (λ y. refl) b (push i d) s t) (same_inside Γ Γ (λ y. refl) (push i d) b (λ u. sym (s u)) t) h
+pub component_tested : (next scope : List Bool) → next ≡ scope → (b d : ℕ → ℕ) (i : ℕ) (t : calculus.NameType) (r : Bool) → ((u : ℕ) → b u ≡ push i d u)
+    → Decides r (WellFormedInside (marked next) b t) → Decides r (WellFormedInside (marked scope) (push i d) t)
+component_tested next scope e b d i t r s h =
+    let Γ = marked scope in
+    Decides-like r (same_inside Γ Γ (λ y. refl) b (push i d) s t) (same_inside Γ Γ (λ y. refl) (push i d) b (λ u. sym (s u)) t)
+    (subst (λ l. Decides r (WellFormedInside (marked l) b t)) e h)
 
 -- the component at a place
 pub component_at : (xs ys : List ℕ) (i x : ℕ) → Some x ≡ nth xs i → xs ≡ ys → x ≡ get_or ys i 0

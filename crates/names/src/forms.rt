@@ -15,81 +15,89 @@ use tables::tables::{Entry, Item, SheetType};
 /// The most levels that a type nests.
 const LEVELS: usize = 4;
 
-/// The counts one level further in.
-fn pushed(count: usize, counts: &[usize; 4]) -> [usize; 4]
-    ensures each { (u : ℕ) → u < 4 → outer result u ≡ push count (outer counts.now) u }
-    ensures size { length result ≡ 4 }
-{
-    [count, counts[0], counts[1], counts[2]]
+/// Where a type stands: the names in its scope, and how many arguments of the channels around it come before, from the
+/// nearest channel out.
+#[derive(Drop)]
+struct Inside<'a> {
+    scope: &'a [bool; 64],
+    counts: [usize; 4],
 }
 
-/// Whether an item may stand in a type: a name in scope, or an argument that comes before.
-fn item_fits(item: Item, scope: &[bool; 64], counts: &[usize; 4]) -> bool
-    ensures { Decides result (WellFormedItem (marked scope.now) (outer counts.now) (meant.item item)) }
-{
-    match item {
-        Item::Name(name) => scope.get(name as usize).copied().unwrap_or(false),
-        Item::Index { arrows, position } => {
-            let before = counts.get(arrows as usize).copied().unwrap_or(0);
-            (position as usize).saturating_sub(1) < before
+impl<'a> Inside<'a> {
+    /// One channel further in, with so many arguments of it before.
+    fn pushed(&self, count: usize) -> Inside<'a>
+        ensures scope { result.scope.now ≡ self.now.scope.now }
+        ensures each { (u : ℕ) → u < 4 → outer result.counts u ≡ push count (outer self.now.counts) u }
+        ensures size { length result.counts ≡ 4 }
+    {
+        let [first, second, third, _] = self.counts;
+        Inside {
+            scope: self.scope,
+            counts: [count, first, second, third],
         }
     }
-}
 
-/// Whether an entry may stand in a type.
-fn entry_fits(entry: &Entry, scope: &[bool; 64], counts: &[usize; 4]) -> bool
-    ensures { Decides result (WellFormedEntry (marked scope.now) (outer counts.now) (meant.entry entry.now)) }
-{
-    let items = entry.label.items;
-    let mut place = 0;
-    while let Some(item) = items.get(place) {
-        if !item_fits(item, scope, counts) {
+    /// Whether an item may stand in a type: a name in scope, or an argument that comes before.
+    fn item_fits(&self, item: Item) -> bool
+        ensures { Decides result (WellFormedItem (marked self.now.scope.now) (outer self.now.counts) (meant.item item)) }
+    {
+        match item {
+            Item::Name(name) => {
+                let scope = self.scope;
+                scope.get(name as usize).copied().unwrap_or(false)
+            }
+            Item::Index { arrows, position } => {
+                let before = self.counts.get(arrows as usize).copied().unwrap_or(0);
+                (position as usize).saturating_sub(1) < before
+            }
+        }
+    }
+
+    /// Whether an entry may stand in a type.
+    fn entry_fits(&self, entry: &Entry) -> bool
+        ensures { Decides result (WellFormedEntry (marked self.now.scope.now) (outer self.now.counts) (meant.entry entry.now)) }
+    {
+        let items = entry.label.items;
+        let mut place = 0;
+        while let Some(item) = items.get(place) {
+            if !self.item_fits(item) {
+                return false;
+            }
+            place += 1;
+        }
+        true
+    }
+
+    /// Whether each of the entries may stand in a type.
+    fn entries_fit(&self, entries: &[Entry]) -> bool
+        ensures { Decides result (AllByRecursion (λ e. WellFormedEntry (marked self.now.scope.now) (outer self.now.counts) (meant.entry e)) entries.now) }
+    {
+        entries.iter().all(|entry| self.entry_fits(entry))
+    }
+
+    /// Whether type `at`, so many levels in, is well formed.
+    fn is_formed(&self, types: &[SheetType], levels: usize, at: usize) -> bool
+        requires { Counts levels self.now.counts }
+        ensures { Decides result (WellFormedInside (marked self.now.scope.now) (outer self.now.counts) (meant.type_within types.now levels at)) }
+    {
+        if levels == 0 {
+            return true;
+        }
+        let inner = components_of(types, at);
+        if !self
+            .pushed(inner.count())
+            .entries_fit(entries_of(types, at))
+        {
             return false;
         }
-        place += 1;
-    }
-    true
-}
-
-/// Whether each of the entries may stand in a type.
-fn entries_fit(entries: &[Entry], scope: &[bool; 64], counts: &[usize; 4]) -> bool
-    ensures { Decides result (AllByRecursion (λ e. WellFormedEntry (marked scope.now) (outer counts.now) (meant.entry e)) entries.now) }
-{
-    entries.iter().all(|entry| entry_fits(entry, scope, counts))
-}
-
-/// Whether type `at`, so many levels in, is well formed inside other channels: `counts` says how many of their
-/// arguments come before.
-fn is_formed(
-    types: &[SheetType],
-    levels: usize,
-    at: usize,
-    scope: &[bool; 64],
-    counts: &[usize; 4],
-) -> bool
-    requires { Counts levels counts.now }
-    ensures { Decides result (WellFormedInside (marked scope.now) (outer counts.now) (meant.type_within types.now levels at)) }
-{
-    if levels == 0 {
-        return true;
-    }
-    let inner = components_of(types, at);
-    if !entries_fit(entries_of(types, at), scope, &pushed(inner.count(), counts)) {
-        return false;
-    }
-    for place in 0..inner.count() {
-        let component = inner.get(place).unwrap();
-        if !is_formed(
-            types,
-            levels - 1,
-            component as usize,
-            scope,
-            &pushed(place, counts),
-        ) {
-            return false;
+        for place in 0..inner.count() {
+            let component = inner.get(place).unwrap() as usize;
+            if !self.pushed(place).is_formed(types, levels - 1, component) {
+                return false;
+            }
         }
+        true
     }
-    true
 }
 
 impl<'a> Charted<'a> {
@@ -98,14 +106,11 @@ impl<'a> Charted<'a> {
         requires { x < 64 }
         ensures { Decides result (WellFormed (scope_for self.now.tables.now x) (meant.types_of self.now.tables.now x)) }
     {
-        let types = self.tables.types.as_slice();
-        is_formed(
-            types,
-            LEVELS,
-            self.type_number(x),
-            &self.scope_for(x),
-            &[0; 4],
-        )
+        let outermost = Inside {
+            scope: &self.scope_for(x),
+            counts: [0; 4],
+        };
+        outermost.is_formed(self.tables.types.as_slice(), LEVELS, self.type_number(x))
     }
 
     /// The first name whose type is not well formed in its scope, or none.

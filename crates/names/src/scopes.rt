@@ -7,7 +7,7 @@ ghost use Rattle.tables.specs.Encoding.{parts};
 ghost use Rattle.sheet.specs.Tree.{node_at};
 ghost use Rattle.sheet.specs.Scope.{member, binds};
 ghost use Rattle.meaning.specs.Scopes.{free, scope_at, scope_for, earlier};
-ghost use Rattle.names.specs.Marks.{marked, Marks};
+ghost use Rattle.names.specs.Marks.{Marks};
 
 use crate::charted::Charted;
 use sheet::chart::names_bound;
@@ -69,8 +69,7 @@ fn count_before(names: &Tuple<u8>, x: usize) -> usize
 impl<'a> Charted<'a> {
     /// The free names.
     fn free_names(&self) -> [bool; 64]
-        ensures size { length result ≡ 64 }
-        ensures each { (y : ℕ) → y < 64 → marked result y ≡ free self.now.tables.now y }
+        ensures { Marks result (free self.now.tables.now) }
     {
         array::from_fn(|x| self.is_free(x))
     }

@@ -7,5 +7,5 @@ is_formed-requires c = record { deep = omega arith; none = λ u l. no_counts u }
 
 pub returns : goal.returns
 returns c =
-    well_tested c.args.self.now.tables.now c.args.x c.type_number.result c.scope_for.result (replicate 4 0) c.as_slice-types.result.now c.is_formed.result
-    c.scope_for.ensures no_counts c.as_slice-types.ensures.value c.type_number.ensures c.is_formed.ensures
+    well_tested c.args.self.now.tables.now c.args.x c.type_number.result c.scope_for.result (replicate 4 0) c.as_slice.result.now c.is_formed.result
+    c.scope_for.ensures no_counts c.as_slice.ensures.value c.type_number.ensures c.is_formed.ensures

@@ -8,7 +8,7 @@ use Rattle.names.proofs.Climbing.{climb_start, climb_on, climb_end, whole}
 use Rattle.names.proofs.charted.Charted.scope_at.Goals as goal
 
 pub loop-parent-init : goal.loop-parent-init
-loop-parent-init c = climb_start c.args.self.now.tables.now c.args.n c.free_names-marks.result c.requires (record { size = c.free_names-marks.ensures.size; each = c.free_names-marks.ensures.each })
+loop-parent-init c = climb_start c.args.self.now.tables.now c.args.n c.free_names-marks.result c.requires c.free_names-marks.ensures
 
 pub loop-parent-smaller : goal.loop-parent-smaller
 loop-parent-smaller c =

@@ -31,4 +31,4 @@ pub returns-in_default : goal.returns-in_default
 returns-in_default c =
     scope_unbound c.args.self.now.tables.now c.args.x c.free_names.result
     (sym (c.args.self.now.charted.binders c.args.x c.requires) ∙ sym c.in_default.ensures)
-    (record { size = c.free_names.ensures.size; each = c.free_names.ensures.each })
+    c.free_names.ensures
