@@ -9,7 +9,6 @@ use Rattle.calculus.proofs.Orders.{labels_ordered}
 use Rattle.fault.specs.Items.{list, nth}
 use Rattle.fault.specs.declared.items.Items.{Items}
 use Rattle.fault.specs.declared.label.Label.{Label}
-use Rattle.tables.specs.declared.tuple.Tuple.TheVariants.{Of}
 use Rattle.sheet.proofs.Nesting.{nth_drop, nth_past, parts_few}
 use Rattle.meaning.specs.Faults.{names_label}
 use Rattle.meaning.proofs.Scopes.{items_of}
@@ -18,7 +17,7 @@ use Rattle.effects.proofs.Naming.{labels_alike}
 
 -- a label has at most four items
 pub items_few : (xs : Items ℕ) → length (list xs) ≤ 4
-items_few xs = parts_few (Of xs)
+items_few xs = parts_few (record { 0 = Some xs })
 
 -- the order by the items from place i on
 module _ (xs ys : List ℕ) (i : ℕ) where

@@ -5,12 +5,12 @@ ghost use Rattle.tables.specs.Encoding.{parts};
 ghost use Rattle.sheet.specs.Scope.{member};
 ghost use Rattle.effects.specs.Found.{meets, label_before};
 
-use fault::{Items, Label};
+use fault::Label;
 use tables::tuple::Tuple;
 
 /// Whether one label comes before another: the first items that differ decide, and a missing item comes after every
 /// item.
-pub fn is_before(left: &Label<u8>, right: &Label<u8>) -> bool
+pub(crate) fn is_before(left: &Label<u8>, right: &Label<u8>) -> bool
     ensures { result ≡ label_before left.now right.now }
 {
     let mut place = 0;
@@ -27,30 +27,15 @@ pub fn is_before(left: &Label<u8>, right: &Label<u8>) -> bool
 }
 
 /// Whether a label names a name.
-pub fn mentions(label: &Label<u8>, name: u8) -> bool
+fn mentions(label: &Label<u8>, name: u8) -> bool
     ensures { result ≡ member name (list label.now.items) }
 {
-    match label.items {
-        Items::One(a) => name == a,
-        Items::Two(a, b) => name == a || name == b,
-        Items::Three(a, b, c) => name == a || name == b || name == c,
-        Items::Four(a, b, c, d) => name == a || name == b || name == c || name == d,
-    }
+    label.items.any(|item| item == name)
 }
 
 /// Whether a label names one of the names.
-pub fn mentions_any(label: &Label<u8>, names: &Tuple<u8>) -> bool
+pub(crate) fn mentions_any(label: &Label<u8>, names: &Tuple<u8>) -> bool
     ensures { result ≡ meets (parts names.now) (list label.now.items) }
 {
-    match names {
-        Tuple::Empty => false,
-        Tuple::Of(Items::One(a)) => mentions(label, *a),
-        Tuple::Of(Items::Two(a, b)) => mentions(label, *a) || mentions(label, *b),
-        Tuple::Of(Items::Three(a, b, c)) => {
-            mentions(label, *a) || mentions(label, *b) || mentions(label, *c)
-        }
-        Tuple::Of(Items::Four(a, b, c, d)) => {
-            mentions(label, *a) || mentions(label, *b) || mentions(label, *c) || mentions(label, *d)
-        }
-    }
+    names.any(|name| mentions(label, name))
 }

@@ -17,8 +17,7 @@ use crate::rows::fill_rows;
 use crate::work::Work;
 use counting::Counting;
 use fault::{Fault, Label};
-use sheet::{OpenedSheet, Sheets};
-use tables::tables::Tables;
+use sheet::OpenedSheet;
 
 mod amounts;
 mod faults;
@@ -35,8 +34,8 @@ pub use rows::clear_rows;
 const ENOUGH: usize = 8192;
 
 /// The first fault of the effects, by the numbers 12 to 14; too few rows are 7. All rows are zero then.
-pub fn judge_effects<C: Sheets>(sheet: &OpenedSheet<C>, rows: &mut [Row]) -> Result<(), Fault>
-    ensures first { FirstTold (λ f. Faulty (C.Counting.operations (C.Sheets.own sheet.now.sheet)) (C.Sheets.held sheet.now.sheet) (length rows.old) f × OfEffects f) (fault_of result) }
+pub fn judge_effects<C: Counting>(sheet: &OpenedSheet<C>, rows: &mut [Row]) -> Result<(), Fault>
+    ensures first { FirstTold (λ f. Faulty (C.Counting.operations sheet.now.counting) sheet.now.tables (length rows.old) f × OfEffects f) (fault_of result) }
     ensures zero { rows.new ≡ replicate (length rows.old) blank }
 {
     if rows.len() < ENOUGH {
@@ -44,8 +43,8 @@ pub fn judge_effects<C: Sheets>(sheet: &OpenedSheet<C>, rows: &mut [Row]) -> Res
         return Err(Fault::FewRows);
     }
     let tables = sheet.tables();
-    prepare(sheet, &tables, rows);
-    let first = Work::new(&sheet.counting(), &tables, rows).first_fault();
+    prepare(sheet, rows);
+    let first = Work::new(&sheet.counting(), tables, rows).first_fault();
     clear_rows(rows);
     match first {
         Some(found) => Err(told(tables.nodes.as_slice(), &found)),
@@ -54,13 +53,13 @@ pub fn judge_effects<C: Sheets>(sheet: &OpenedSheet<C>, rows: &mut [Row]) -> Res
 }
 
 /// The least amount that a node needs of a label; past the last node it is 0. Too few rows are 7. All rows are zero then.
-pub fn amount_of<C: Sheets>(
+pub fn amount_of<C: Counting>(
     sheet: &OpenedSheet<C>,
     rows: &mut [Row],
     node: usize,
     label: Label<u8>,
 ) -> Result<u32, Fault>
-    ensures told { MatchResult result (λ a. (8192 ≤ length rows.old) × (a ≡ amount_at (C.Counting.operations (C.Sheets.own sheet.now.sheet)) (C.Sheets.held sheet.now.sheet) node (names_label label))) (λ f. (f ≡ FewRows) × (length rows.old < 8192)) }
+    ensures told { MatchResult result (λ a. (8192 ≤ length rows.old) × (a ≡ amount_at (C.Counting.operations sheet.now.counting) sheet.now.tables node (names_label label))) (λ f. (f ≡ FewRows) × (length rows.old < 8192)) }
     ensures zero { rows.new ≡ replicate (length rows.old) blank }
 {
     if rows.len() < ENOUGH {
@@ -68,17 +67,16 @@ pub fn amount_of<C: Sheets>(
         return Err(Fault::FewRows);
     }
     let tables = sheet.tables();
-    prepare(sheet, &tables, rows);
-    let amount = Work::new(&sheet.counting(), &tables, rows).amount_at(node, &label);
+    prepare(sheet, rows);
+    let amount = Work::new(&sheet.counting(), tables, rows).amount_at(node, &label);
     clear_rows(rows);
     Ok(amount)
 }
 
-/// Writes the rows of a sheet's nodes, by its tables: the amounts of the nodes come from them.
-fn prepare<C: Sheets>(sheet: &OpenedSheet<C>, tables: &Tables, rows: &mut [Row])
-    requires held { tables.now ≡ C.Sheets.held sheet.now.sheet }
-    requires enough { 8192 ≤ length rows.old }
-    ensures { (l : L ℕ) → Amounts (C.Counting.operations (C.Sheets.own sheet.now.sheet)) (elements (C.Sheets.held sheet.now.sheet).nodes) (take (8 * length (elements (C.Sheets.held sheet.now.sheet).nodes)) rows.new) l (λ n. amount_at (C.Counting.operations (C.Sheets.own sheet.now.sheet)) (C.Sheets.held sheet.now.sheet) n (names_label l)) }
+/// Writes the rows of a sheet's nodes: the amounts of the nodes come from them.
+fn prepare<C: Counting>(sheet: &OpenedSheet<C>, rows: &mut [Row])
+    requires { 8192 ≤ length rows.old }
+    ensures { (l : L ℕ) → Amounts (C.Counting.operations sheet.now.counting) (elements sheet.now.tables.nodes) (take (8 * length (elements sheet.now.tables.nodes)) rows.new) l (λ n. amount_at (C.Counting.operations sheet.now.counting) sheet.now.tables n (names_label l)) }
 {
-    fill_rows(sheet.counting().full_right(), tables, rows);
+    fill_rows(sheet.counting().full_right(), sheet.tables(), rows);
 }

@@ -49,21 +49,7 @@ fn put_in(names: &Tuple<u8>, item: Item) -> u8
 fn row_of_entry(names: &Tuple<u8>, entry: &Entry) -> Row
     ensures { result ≡ entry_row (parts names.now) entry.now }
 {
-    let items = match entry.label.items {
-        Items::One(a) => Items::One(put_in(names, a)),
-        Items::Two(a, b) => Items::Two(put_in(names, a), put_in(names, b)),
-        Items::Three(a, b, c) => {
-            Items::Three(put_in(names, a), put_in(names, b), put_in(names, c))
-        }
-        Items::Four(a, b, c, d) => {
-            Items::Four(
-                put_in(names, a),
-                put_in(names, b),
-                put_in(names, c),
-                put_in(names, d),
-            )
-        }
-    };
+    let items = entry.label.items.map(|item| put_in(names, item));
     Row {
         label: Label { items },
         amount: entry.amount,

@@ -1,5 +1,5 @@
--- One to four things as a list.
-use Rattle.std.specs.Prelude.{ℕ, zero, suc, List, [], ◌∷◌, Some, None, Option}
+-- One to four things as a list, and what the methods that take a closure answer.
+use Rattle.std.specs.Prelude.{◌≡◌, ℕ, zero, suc, Bool, true, false, ◌⊎◌, List, [], ◌∷◌, Some, None, Option}
 use Rattle.fault.specs.declared.items.Items.{Items}
 use Rattle.fault.specs.declared.items.Items.TheVariants.{One, Two, Three, Four}
 
@@ -15,3 +15,18 @@ abbrev pub nth : {T : Type 0} → List T → ℕ → Option T
 nth [] i = None
 nth (x ∷ xs) zero = Some x
 nth (x ∷ xs) (suc i) = nth xs i
+
+-- E says what a call at a thing may return: the first call that returns false makes r false, and r is true where none does
+abbrev pub AllAnswer : {T : Type 0} → (T → Bool → Type 0) → List T → Bool → Type 0
+AllAnswer E [] r = r ≡ true
+AllAnswer E (x ∷ xs) r = (E x false × (r ≡ false)) ⊎ (E x true × AllAnswer E xs r)
+
+-- the first call that returns true makes r true, and r is false where none does
+abbrev pub AnyAnswer : {T : Type 0} → (T → Bool → Type 0) → List T → Bool → Type 0
+AnyAnswer E [] r = r ≡ false
+AnyAnswer E (x ∷ xs) r = (E x true × (r ≡ true)) ⊎ (E x false × AnyAnswer E xs r)
+
+-- some call may return nothing
+abbrev pub SomeNone : {T U : Type 0} → (T → Option U → Type 0) → List T → Type 0
+SomeNone E [] = ⊥
+SomeNone E (x ∷ xs) = E x None ⊎ SomeNone E xs

@@ -1,6 +1,7 @@
 //! One to four things in order: what a label names, what a message carries.
-ghost use Rattle.std.specs.Prelude.{◌≡◌, length};
-ghost use Rattle.fault.specs.Items.{list, nth};
+ghost use Rattle.std.specs.Prelude.{◌≡◌, [], length, take, Some, MatchOption};
+ghost use Rattle.std.specs.List.{All, AllZip};
+ghost use Rattle.fault.specs.Items.{list, nth, AllAnswer, AnyAnswer, SomeNone};
 
 /// One to four things, in order.
 #[derive(Clone, Copy, PartialEq, Eq, Debug)]
@@ -40,6 +41,73 @@ impl<T: Copy> Items<T> {
             (Items::Four(_, _, c, _), 2) => Some(*c),
             (Items::Four(_, _, _, d), 3) => Some(*d),
             _ => None,
+        }
+    }
+
+    /// The first of them, so many; all of them where there are no more, and none where that is nothing.
+    pub fn first(&self, count: usize) -> Option<Items<T>>
+        ensures { MatchOption result (take count (list self.now) ≡ []) (λ xs. list xs ≡ take count (list self.now)) }
+    {
+        match (*self, count) {
+            (_, 0) => None,
+            (Items::Two(a, _) | Items::Three(a, _, _) | Items::Four(a, _, _, _), 1) => Some(
+                Items::One(a),
+            ),
+            (Items::Three(a, b, _) | Items::Four(a, b, _, _), 2) => Some(Items::Two(a, b)),
+            (Items::Four(a, b, c, _), 3) => Some(Items::Three(a, b, c)),
+            _ => Some(*self),
+        }
+    }
+
+    /// Whether each passes the test; the first that fails ends it.
+    pub fn all<F: Fn(T) -> bool>(&self, test: F) -> bool
+        requires { All (F.pre test) (list self.now) }
+        ensures { AllAnswer (F.post test) (list self.now) result }
+    {
+        match *self {
+            Items::One(a) => test(a),
+            Items::Two(a, b) => test(a) && test(b),
+            Items::Three(a, b, c) => test(a) && test(b) && test(c),
+            Items::Four(a, b, c, d) => test(a) && test(b) && test(c) && test(d),
+        }
+    }
+
+    /// Whether one passes the test; the first that does ends it.
+    pub fn any<F: Fn(T) -> bool>(&self, test: F) -> bool
+        requires { All (F.pre test) (list self.now) }
+        ensures { AnyAnswer (F.post test) (list self.now) result }
+    {
+        match *self {
+            Items::One(a) => test(a),
+            Items::Two(a, b) => test(a) || test(b),
+            Items::Three(a, b, c) => test(a) || test(b) || test(c),
+            Items::Four(a, b, c, d) => test(a) || test(b) || test(c) || test(d),
+        }
+    }
+
+    /// What a function gives of each, in the same order.
+    pub fn map<U, F: Fn(T) -> U>(&self, f: F) -> Items<U>
+        requires { All (F.pre f) (list self.now) }
+        ensures { AllZip (F.post f) (list self.now) (list result) }
+    {
+        match *self {
+            Items::One(a) => Items::One(f(a)),
+            Items::Two(a, b) => Items::Two(f(a), f(b)),
+            Items::Three(a, b, c) => Items::Three(f(a), f(b), f(c)),
+            Items::Four(a, b, c, d) => Items::Four(f(a), f(b), f(c), f(d)),
+        }
+    }
+
+    /// What a function gives of each, in the same order; none where it gives none of one.
+    pub fn try_map<U: Copy, F: Fn(T) -> Option<U>>(&self, f: F) -> Option<Items<U>>
+        requires { All (F.pre f) (list self.now) }
+        ensures { MatchOption result (SomeNone (F.post f) (list self.now)) (λ ys. AllZip (λ x y. F.post f x (Some y)) (list self.now) (list ys)) }
+    {
+        match *self {
+            Items::One(a) => Some(Items::One(f(a)?)),
+            Items::Two(a, b) => Some(Items::Two(f(a)?, f(b)?)),
+            Items::Three(a, b, c) => Some(Items::Three(f(a)?, f(b)?, f(c)?)),
+            Items::Four(a, b, c, d) => Some(Items::Four(f(a)?, f(b)?, f(c)?, f(d)?)),
         }
     }
 }

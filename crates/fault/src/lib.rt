@@ -7,7 +7,7 @@ pub mod label;
 
 pub use fault::{Fault, Layer};
 pub use items::Items;
-pub use label::Label;
+pub use label::{Exact, Label};
 
 #[cfg(test)]
 mod tests;

@@ -30,11 +30,6 @@ use Rattle.effects.specs.Faults.{OfEffects}
 use Rattle.judge.specs.Typed.{OfTypes, Typed}
 use Rattle.judge.proofs.Stages.{Rule, free_names, formed_types, channel_counts, argument_types, Good, number, first_at, none_of_types}
 
--- an answer without a fault
-pub ok_none : {A : Type 0} (r : Result A Fault) → is_ok r ≡ true → fault_of r ≡ None
-ok_none (Ok x) e = refl
-ok_none (Err f) e = absurd (false≢true e)
-
 -- a fault is of names and uses, or of effects
 sorted : (K : Operations) (t : Tables) (rows : ℕ) (g : Fault) → Faulty K t rows g → OfTypes g ⊎ OfEffects g
 sorted K t rows g (few_rows h) = inr (inl refl)
@@ -180,7 +175,7 @@ module _ (K : Operations) (t : Tables) where
 
   module _ (sound : Sound K.largest t) (W : Laws K) where
     -- a sheet without a fault is accepted
-    pub unfaulted_accepted : (rows : ℕ) → Typed K t → FirstTold (Faulty K t rows) None → Accepts K t
+    unfaulted_accepted : (rows : ℕ) → Typed K t → FirstTold (Faulty K t rows) None → Accepts K t
     unfaulted_accepted rows ty none = clean_accepted K t sound (record {
       free_public = ty.free_public;
       well_formed = ty.well_formed;
@@ -195,6 +190,11 @@ module _ (K : Operations) (t : Tables) where
           (⊎_elim (λ s. s) (λ no. absurd (none _ (not_copyable n next b.0 e no))) (cases_eq (K.join (amount_at K t n (names_label b.0)) (amount_at K t n (names_label b.0))) (amount_at K t n (names_label b.0))));
       nothing_owed = λ L. let b = label_back L in subst (λ M. amount_at K t 0 M ≡ 0) b.1 (zero_since _ (λ no. none _ (root_owes b.0 no)));
     }) W
+
+    -- and so is one whose answer is no fault
+    pub passed_accepted : {A : Type 0} (rows : ℕ) (r : Result A Fault) → Typed K t → FirstTold (Faulty K t rows) (fault_of r) → is_ok r ≡ true → Accepts K t
+    passed_accepted rows (Ok x) ty first e = unfaulted_accepted rows ty first
+    passed_accepted rows (Err f) ty first e = absurd (false≢true e)
 
     -- an accepted sheet has no fault but too few rows
     pub accepted_unfaulted : (rows : ℕ) → 8192 ≤ rows → Accepts K t → (g : Fault) → Faulty K t rows g → ⊥

@@ -1,13 +1,15 @@
 -- Nine small sheets, each with its verdict by parts with full right 2 and by once.
-use Rattle.std.specs.Prelude.{ℕ, List, [], ◌∷◌, length, Some, None, Option}
+use Rattle.std.specs.Prelude.{ℕ, min, List, [], ◌∷◌, length, Some, None, Option}
 use Rattle.std.specs.List.{AllByRecursion}
+use Rattle.std.proofs.Common.{arith}
 use Rattle.calculus.specs.Built.{parts, once}
 use Rattle.calculus.specs.Countings.{Operations}
 use Rattle.fault.specs.declared.items.Items.TheVariants.{One, Two}
 use Rattle.fault.specs.declared.label.Label.{Label}
 use Rattle.fault.specs.declared.fault.Fault.{Fault}
 use Rattle.fault.specs.declared.fault.Fault.TheVariants.{WrongType, Escapes, NotCopyable, RootOwes}
-use Rattle.tables.specs.declared.tuple.Tuple.TheVariants.{Empty, Of}
+use Rattle.tables.specs.declared.table.Table.{Table}
+use Rattle.tables.specs.declared.tuple.Tuple.{Tuple}
 use Rattle.tables.specs.declared.tables.Entry.{Entry}
 use Rattle.tables.specs.declared.tables.Item.{Item}
 use Rattle.tables.specs.declared.tables.Item.TheVariants.{Name, Index}
@@ -19,13 +21,13 @@ use Rattle.tables.specs.declared.tables.Tables.{Tables}
 use Rattle.meaning.specs.Accepts.{Accepts}
 use Rattle.meaning.specs.Faults.{Faulty, FirstTold}
 
+-- a table of these things, as many as it has places for
+abbrev pub table_of : {T : Type 0} {N : ℕ} → List T → Table T N
+table_of {T} {N} xs = record { items = xs; count = min (length xs) N; within = omega arith }
+
 -- the tables of these types, names (each by the number of its type) and nodes
 abbrev pub tables_of : List SheetType → List ℕ → List Node → Tables
-tables_of types names nodes = record {
-  types = record { items = types; count = length types };
-  names = record { items = names; count = length names };
-  nodes = record { items = nodes; count = length nodes };
-}
+tables_of types names nodes = record { types = table_of types; names = table_of names; nodes = table_of nodes }
 
 -- name 0 is public: the permission is about it. It is called a, and the label of it alone
 abbrev pub a : Label ℕ
@@ -35,13 +37,17 @@ a = record { items = One 0 }
 abbrev pub entry_on : Item → Entry
 entry_on i = record { label = record { items = One i }; amount = 1 }
 
+-- no things
+abbrev pub empty : Tuple ℕ
+empty = record { 0 = None }
+
 -- c is a channel without components, whose message carries 1 on a
 abbrev pub c_type : SheetType
-c_type = Channel (record { components = Empty; entries = record { items = entry_on (Name 0) ∷ []; count = 1 } })
+c_type = Channel (record { components = empty; entries = table_of (entry_on (Name 0) ∷ []) })
 
 -- d is a channel of two public names, whose message carries 1 on each of them
 abbrev pub d_type : SheetType
-d_type = Channel (record { components = Of (Two 0 0); entries = record { items = entry_on (Index 0 1) ∷ entry_on (Index 0 2) ∷ []; count = 2 } })
+d_type = Channel (record { components = record { 0 = Some (Two 0 0) }; entries = table_of (entry_on (Index 0 1) ∷ entry_on (Index 0 2) ∷ []) })
 
 -- a sheet and its two verdicts
 pub record Example : Type 0 where
@@ -85,7 +91,7 @@ ends_copied = record {
 abbrev pub halves : Example
 halves = record {
   sheet = tables_of (Public ∷ c_type ∷ []) (0 ∷ 1 ∷ [])
-      (New 1 1 ∷ Both 2 6 ∷ Begin a 3 ∷ Both 4 5 ∷ Send 1 Empty ∷ Send 1 Empty ∷ Receive 1 Empty 7 ∷ Receive 1 Empty 8 ∷ End a 9 ∷ Stop ∷ []);
+      (New 1 1 ∷ Both 2 6 ∷ Begin a 3 ∷ Both 4 5 ∷ Send 1 empty ∷ Send 1 empty ∷ Receive 1 empty 7 ∷ Receive 1 empty 8 ∷ End a 9 ∷ Stop ∷ []);
   by_parts = None;
   by_once = None;
 }
@@ -94,7 +100,7 @@ halves = record {
 abbrev pub one_half : Example
 one_half = record {
   sheet = tables_of (Public ∷ c_type ∷ []) (0 ∷ 1 ∷ [])
-      (New 1 1 ∷ Both 2 6 ∷ Begin a 3 ∷ Both 4 5 ∷ Send 1 Empty ∷ Send 1 Empty ∷ Receive 1 Empty 7 ∷ End a 8 ∷ Stop ∷ []);
+      (New 1 1 ∷ Both 2 6 ∷ Begin a 3 ∷ Both 4 5 ∷ Send 1 empty ∷ Send 1 empty ∷ Receive 1 empty 7 ∷ End a 8 ∷ Stop ∷ []);
   by_parts = Some (RootOwes a 1);
   by_once = None;
 }
@@ -102,7 +108,7 @@ one_half = record {
 -- 8: new d, send d(a, a)
 abbrev pub same_twice : Example
 same_twice = record {
-  sheet = tables_of (Public ∷ d_type ∷ []) (0 ∷ 1 ∷ []) (New 1 1 ∷ Send 1 (Of (Two 0 0)) ∷ []);
+  sheet = tables_of (Public ∷ d_type ∷ []) (0 ∷ 1 ∷ []) (New 1 1 ∷ Send 1 (record { 0 = Some (Two 0 0) }) ∷ []);
   by_parts = Some (RootOwes a 2);
   by_once = Some (RootOwes a 1);
 }
@@ -110,7 +116,7 @@ same_twice = record {
 -- 9: new c, send p(c) (p is name 2, and public)
 abbrev pub tells_secret : Example
 tells_secret = record {
-  sheet = tables_of (Public ∷ c_type ∷ []) (0 ∷ 1 ∷ 0 ∷ []) (New 1 1 ∷ Send 2 (Of (One 1)) ∷ []);
+  sheet = tables_of (Public ∷ c_type ∷ []) (0 ∷ 1 ∷ 0 ∷ []) (New 1 1 ∷ Send 2 (record { 0 = Some (One 1) }) ∷ []);
   by_parts = Some (WrongType 1);
   by_once = Some (WrongType 1);
 }

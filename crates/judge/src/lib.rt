@@ -1,10 +1,9 @@
 //! Judging: the verdict on an opened sheet, passed sheets, and what is told of them.
 #![tactic(auto)]
 
-pub mod built;
 pub mod nine;
 pub mod passed;
 pub mod verdict;
 
-pub use passed::{PassedSheet, Passing};
+pub use passed::PassedSheet;
 pub use verdict::{judge, tell};

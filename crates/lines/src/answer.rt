@@ -5,8 +5,9 @@ ghost use Rattle.lines.specs.Answer.{Answers, By};
 
 use crate::choice::{Chosen, choose};
 use crate::lines::{opened_line, refused_line};
+use counting::Counting;
 use fault::Fault;
-use sheet::{OpenedSheet, Sheets, open};
+use sheet::{OpenedSheet, open};
 use std::alloc::{AllocError, Global};
 
 /// The most bytes that a sheet may have.
@@ -26,7 +27,7 @@ pub fn line_for(heap: Global, bytes: &[u8]) -> Result<String, AllocError>
 }
 
 /// The line for bytes that are opened with this counting.
-fn line_by<C: Sheets>(heap: Global, counting: C, bytes: &[u8]) -> Result<String, AllocError>
+fn line_by<C: Counting>(heap: Global, counting: C, bytes: &[u8]) -> Result<String, AllocError>
     ensures { IfOk result (λ s. By (basis_of (C.Counting.tag counting) (C.Counting.operations counting)) bytes.now (string_bytes s)) }
 {
     let mut place = OpenedSheet::new(counting);

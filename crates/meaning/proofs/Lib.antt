@@ -7,3 +7,4 @@ pub mod Judging
 pub mod Steps
 pub mod Above
 pub mod Clean
+pub mod Failing

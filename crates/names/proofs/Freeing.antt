@@ -45,6 +45,3 @@ as_free t types x n r l f es en d =
     let here : Decides r (type_within (elements t.types) 4 n ≡ calculus.public) = subst (λ ts. Decides r (type_within ts 4 n ≡ calculus.public)) es d in
     let there : Decides r (types_of t x ≡ calculus.public) = subst (λ k. Decides r (type_within (elements t.types) 4 k ≡ calculus.public)) en here in
     (λ h _. there.0 h, λ good. there.1 (good (and_from (ltb x 64) (free t x) (lt-ltb x 64 l) f)))
-
-pub pure_not_public : (f : ℕ → calculus.NameType) (x : SheetType) → x ≡ Pure → Decides false (form f x ≡ calculus.public)
-pure_not_public f x e = subst (λ y. Decides false (form f y ≡ calculus.public)) (sym e) (λ h. absurd (both_ways false refl h), λ h. let z : ◌≡◌ {A = ℕ} 0 1 = cc in absurd (omega arith))

@@ -1,11 +1,7 @@
 -- Marks of names against scopes, and the names that stand before one.
-use Rattle.std.proofs.Common.{◌≡◌, ℕ, zero, suc, ◌<◌, ◌≤◌, Bool, true, false, ◌||◌, eqb, List, [], ◌∷◌, ◌++◌, length, take, Some, None, Option, MatchOption, sym, refl, ap, ◌∙◌, arith}
-use Rattle.std.proofs.lemmas.Option.{none-some, same_Some}
-use Rattle.std.proofs.lemmas.Bool.{eq-eqb, ne_eqb, cond-true, cond-false}
+use Rattle.std.proofs.Common.{◌≡◌, ℕ, ◌<◌, ◌≤◌, Bool, true, false, ◌||◌, eqb, List, [], ◌∷◌, ◌++◌, Some, None, Option, MatchOption, sym, refl, ap, ◌∙◌, arith}
 use Rattle.sheet.specs.Scope.{member}
 use Rattle.fault.specs.First.{Lowest}
-use Rattle.fault.specs.Items.{nth}
-use Rattle.meaning.specs.Scopes.{earlier}
 
 or_assoc : (a b c : Bool) → (a || (b || c)) ≡ ((a || b) || c)
 or_assoc true b c = refl
@@ -23,20 +19,6 @@ member_append y (x ∷ xs) ys = ap (λ b. eqb y x || b) (member_append y xs ys) 
 -- marked for one list and then for another
 pub marked_more : (old : Bool) (y : ℕ) (xs ys : List ℕ) → (member y ys || (member y xs || old)) ≡ (member y (xs ++ ys) || old)
 marked_more old y xs ys = or_swap (member y xs) (member y ys) old ∙ ap (λ b. b || old) (sym (member_append y xs ys))
-
--- the names before the first place of x, or all where it has none
-pub before_first : (x : ℕ) (xs : List ℕ) (i : ℕ) → Some x ≡ nth xs i → ((k : ℕ) → k < i → Some x ≡ nth xs k → ⊥) → take i xs ≡ earlier x xs
-before_first x [] i e h = absurd (none-some x (sym e))
-before_first x (y ∷ ys) zero e h = sym (cond-true (eqb x y) [] (y ∷ earlier x ys) (eq-eqb x y (same_Some x y e)))
-before_first x (y ∷ ys) (suc i) e h =
-    ap (λ zs. y ∷ zs) (before_first x ys i e (λ k l. h (suc k) (omega arith)))
-    ∙ sym (cond-false (eqb x y) [] (y ∷ earlier x ys) (ne_eqb x y (λ s. h 0 (omega arith) (ap Some s))))
-
-pub before_none : (x : ℕ) (xs : List ℕ) → ((k : ℕ) → k < length xs → Some x ≡ nth xs k → ⊥) → take (length xs) xs ≡ earlier x xs
-before_none x [] h = refl
-before_none x (y ∷ ys) h =
-    ap (λ zs. y ∷ zs) (before_none x ys (λ k l. h (suc k) (omega arith)))
-    ∙ sym (cond-false (eqb x y) [] (y ∷ earlier x ys) (ne_eqb x y (λ s. h 0 (omega arith) (ap Some s))))
 
 -- the first number of a range with P is the lowest
 pub lowest_from : (P : ℕ → Type 0) (n m : ℕ) (r : Option ℕ) → m ≡ n →

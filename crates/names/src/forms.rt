@@ -57,15 +57,7 @@ impl<'a> Inside<'a> {
     fn entry_fits(&self, entry: &Entry) -> bool
         ensures { Decides result (WellFormedEntry (marked self.now.scope.now) (outer self.now.counts) (meant.entry entry.now)) }
     {
-        let items = entry.label.items;
-        let mut place = 0;
-        while let Some(item) = items.get(place) {
-            if !self.item_fits(item) {
-                return false;
-            }
-            place += 1;
-        }
-        true
+        entry.label.items.all(|item| self.item_fits(item))
     }
 
     /// Whether each of the entries may stand in a type.

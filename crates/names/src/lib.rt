@@ -16,20 +16,19 @@ mod free;
 mod scopes;
 
 use crate::charted::Charted;
-use sheet::{OpenedSheet, Sheets};
+use counting::Counting;
+use sheet::OpenedSheet;
 
 /// The first free name that is not public, or none.
-pub fn first_free_not_public<C: Sheets>(sheet: &OpenedSheet<C>) -> Option<usize>
-    ensures { FirstFailure (λ x. in_scope (free (C.Sheets.held sheet.now.sheet)) x ≡ true → types_of (C.Sheets.held sheet.now.sheet) x ≡ public) (length (elements (C.Sheets.held sheet.now.sheet).names)) result }
+pub fn first_free_not_public<C: Counting>(sheet: &OpenedSheet<C>) -> Option<usize>
+    ensures { FirstFailure (λ x. in_scope (free sheet.now.tables) x ≡ true → types_of sheet.now.tables x ≡ public) (length (elements sheet.now.tables.names)) result }
 {
-    let tables = sheet.tables();
-    Charted::new(&tables).find_free_not_public()
+    Charted::new(sheet.tables()).find_free_not_public()
 }
 
 /// The first name whose type is not well formed in its scope, or none.
-pub fn first_ill_formed<C: Sheets>(sheet: &OpenedSheet<C>) -> Option<usize>
-    ensures { FirstFailure (λ x. WellFormed (scope_for (C.Sheets.held sheet.now.sheet) x) (types_of (C.Sheets.held sheet.now.sheet) x)) (length (elements (C.Sheets.held sheet.now.sheet).names)) result }
+pub fn first_ill_formed<C: Counting>(sheet: &OpenedSheet<C>) -> Option<usize>
+    ensures { FirstFailure (λ x. WellFormed (scope_for sheet.now.tables x) (types_of sheet.now.tables x)) (length (elements sheet.now.tables.names)) result }
 {
-    let tables = sheet.tables();
-    Charted::new(&tables).find_ill_formed()
+    Charted::new(sheet.tables()).find_ill_formed()
 }

@@ -41,7 +41,7 @@ fn bound_at(nodes: &[Node], n: usize) -> Tuple<u8>
 {
     match nodes.get(n) {
         Some(node) => names_bound(node),
-        None => Tuple::Empty,
+        None => Tuple(None),
     }
 }
 

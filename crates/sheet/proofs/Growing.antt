@@ -1,5 +1,7 @@
 -- One record more in the tables: for the functions that add it.
-use Rattle.std.proofs.Common.{◌≡◌, ℕ, ◌≤◌, Bool, true, false, List, map, length, Some, None, MatchBool, Option, sym, ap, ◌∙◌, arith}
+use Rattle.std.proofs.Common.{◌≡◌, ℕ, ◌≤◌, Bool, true, false, List, map, length, Some, None, MatchOption, MatchResult, Option, Result, Ok, Err, sym, refl, ap, ◌∙◌, arith}
+use Rattle.std.specs.Bool.{then_some}
+use Rattle.std.specs.Result.{result_ok}
 use Rattle.std.proofs.lemmas.Bool.{both_ways}
 use Rattle.fault.specs.Items.{list}
 use Rattle.tables.specs.Elements.{last_of}
@@ -19,10 +21,23 @@ use Rattle.tables.specs.declared.tables.Tables.{Tables}
 use Rattle.tables.proofs.Decoded.{tuple_back, entry_back}
 use Rattle.tables.proofs.Tabled.{last_push}
 
--- from what a test tells to what is told of it
-pub when_so : {A B : Type 0} (P Q : Type 0) (r : Bool) → MatchBool r A B → (A → P) → (B → Q) → MatchBool r P Q
-when_so P Q true h f g = f h
-when_so P Q false h f g = g h
+-- from what a push tells to what is told of it
+pub when_pushed : {T E A B : Type 0} (P Q : Type 0) (r : Result T E) (o : Option T) → o ≡ result_ok r → MatchResult r (λ _. A) (λ _. B) → (A → P) → (B → Q) → MatchOption o Q (λ _. P)
+when_pushed P Q (Ok x) o e h f g = rw e (f h)
+when_pushed P Q (Err x) o e h f g = rw e (g h)
+
+pub has_pushed : {T E : Type 0} (A B : Type 0) (r : Result T E) (x : T) → Some x ≡ result_ok r → MatchResult r (λ _. A) (λ _. B) → A
+has_pushed A B (Ok y) x e h = h
+has_pushed A B (Err y) x e h = let z : ◌≡◌ {A = ℕ} 0 1 = cc in absurd (omega arith)
+
+pub not_pushed : {T E : Type 0} (A B : Type 0) (r : Result T E) → None ≡ result_ok r → MatchResult r (λ _. A) (λ _. B) → B
+not_pushed A B (Ok y) e h = let z : ◌≡◌ {A = ℕ} 0 1 = cc in absurd (omega arith)
+not_pushed A B (Err y) e h = h
+
+-- from what a test tells to what is told of a thing that is kept where it passes
+pub when_kept : {T : Type 0} (P : T → Type 0) (Q : Type 0) (b : Bool) (x : T) (o : Option T) → o ≡ then_some b x → (b ≡ true → P x) → (b ≡ false → Q) → MatchOption o Q P
+when_kept P Q true x o e f g = rw e (f refl)
+when_kept P Q false x o e f g = rw e (g refl)
 
 -- the two ways in which nothing in range has a record: nothing is got from it, or what is got is out of range
 nothing_got : {A : Type 0} (o : Option A) (x : A) → None ≡ o → o ≡ Some x → ⊥

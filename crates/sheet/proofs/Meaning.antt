@@ -26,7 +26,11 @@ crooked_number t f (bad_type i l e) = omega arith
 
 -- where the records mean no sheet, any will do
 any : Tables
-any = record { types = record { items = []; count = 0 }; names = record { items = []; count = 0 }; nodes = record { items = []; count = 0 } }
+any = record {
+  types = record { items = []; count = 0; within = omega arith };
+  names = record { items = []; count = 0; within = omega arith };
+  nodes = record { items = []; count = 0; within = omega arith };
+}
 
 -- what the first look finds is the first fault
 module _ (b : Basis) (given : List ℕ) (rs : List Record) (left : List ℕ) (whole : flat_map codes rs ++ left ≡ given) (stuck : Unreadable left) where

@@ -1,14 +1,14 @@
 -- What is at a place of a tuple, and nesting one level further, for the tests on types.
-use Rattle.std.proofs.Common.{◌≡◌, ℕ, zero, suc, ◌+◌, ◌-◌, ◌<◌, ◌≤◌, Bool, true, ◌&&◌, List, [], ◌∷◌, length, drop, Some, None, sym, refl, ap, ◌∙◌, arith}
+use Rattle.std.proofs.Common.{◌≡◌, ℕ, zero, suc, ◌+◌, ◌-◌, ◌<◌, ◌≤◌, Bool, true, ◌&&◌, List, [], ◌∷◌, length, drop, Option, Some, None, sym, refl, ap, ◌∙◌, arith}
 use Rattle.fault.specs.Items.{nth}
+use Rattle.fault.specs.declared.items.Items.{Items}
 use Rattle.fault.specs.declared.items.Items.TheVariants.{One, Two, Three, Four}
-use Rattle.tables.specs.Encoding.{parts}
+use Rattle.tables.specs.Encoding.{things, parts}
 use Rattle.tables.specs.Range.{all}
 use Rattle.tables.specs.Channels.{components}
 use Rattle.sheet.specs.Types.{nests, type_at}
 use Rattle.tables.specs.declared.tables.SheetType.{SheetType}
 use Rattle.tables.specs.declared.tuple.Tuple.{Tuple}
-use Rattle.tables.specs.declared.tuple.Tuple.TheVariants.{Empty, Of}
 
 pub nth_within : {T : Type 0} (xs : List T) (i : ℕ) (x : T) → Some x ≡ nth xs i → i < length xs
 nth_within [] i x e = let z : ◌≡◌ {A = ℕ} 0 1 = cc in omega arith
@@ -28,12 +28,15 @@ nth_past [] (suc i) e = refl
 nth_past (y ∷ ys) zero e = let z : ◌≡◌ {A = ℕ} 0 1 = cc in absurd (omega arith)
 nth_past (y ∷ ys) (suc i) e = nth_past ys i e
 
+pub things_few : {T : Type 0} (o : Option (Items T)) → length (things o) ≤ 4
+things_few None = omega arith
+things_few (Some (One a)) = omega arith
+things_few (Some (Two a b)) = omega arith
+things_few (Some (Three a b c)) = omega arith
+things_few (Some (Four a b c d)) = omega arith
+
 pub parts_few : {T : Type 0} (t : Tuple T) → length (parts t) ≤ 4
-parts_few Empty = omega arith
-parts_few (Of (One a)) = omega arith
-parts_few (Of (Two a b)) = omega arith
-parts_few (Of (Three a b c)) = omega arith
-parts_few (Of (Four a b c d)) = omega arith
+parts_few t = things_few t.0
 
 -- a type nests within some levels where its components nest within one less
 pub nests_step : (types : List SheetType) (d t : ℕ) → (d ≡ 0 → ⊥) → nests types d t ≡ all (nests types (d - 1)) (components (type_at types t))

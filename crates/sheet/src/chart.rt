@@ -53,8 +53,8 @@ pub fn names_bound(node: &Node) -> Tuple<u8>
 {
     match node {
         Node::Receive { names, .. } => *names,
-        Node::New { name, .. } => Tuple::Of(Items::One(*name)),
-        _ => Tuple::Empty,
+        Node::New { name, .. } => Tuple(Some(Items::One(*name))),
+        _ => Tuple(None),
     }
 }
 

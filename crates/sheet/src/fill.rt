@@ -1,5 +1,5 @@
 //! The second look at a sheet: its records, in range, become its tables.
-ghost use Rattle.std.specs.Prelude.{◌≡◌, ℕ, ◌<◌, ◌≤◌, List, [], length, Decides, MatchBool, MatchOption};
+ghost use Rattle.std.specs.Prelude.{◌≡◌, ℕ, ◌<◌, ◌≤◌, List, [], length, Decides, MatchOption};
 ghost use Rattle.sheet.specs.Order.{class_of};
 ghost use Rattle.tables.specs.Range.{Fits};
 ghost use Rattle.sheet.specs.Filling.{totals_of, Room, Grown, IsType, IsEntry, last_channel, NoTypeFits, NoEntryFits, NoNameFits, NoNodeFits, Readable, Filled};
@@ -54,25 +54,17 @@ fn entry_in(given: Record, basis: Basis, totals: Census) -> Option<Entry>
     let Record::Entry { amount, items } = given else {
         return None;
     };
-    let Some(made) = entry_of(amount, items) else {
-        return None;
-    };
-    if entry_fits(basis.largest, totals.names, &made) {
-        Some(made)
-    } else {
-        None
-    }
+    let made = entry_of(amount, items)?;
+    entry_fits(basis.largest, totals.names, &made).then_some(made)
 }
 
-/// The type of a record, at the end of the types; false where it is out of range.
-fn add_type(tables: &mut Tables, given: Record, basis: Basis, totals: Census) -> bool
+/// The type of a record, at the end of the types; none where it is out of range.
+fn add_type(tables: &mut Tables, given: Record, basis: Basis, totals: Census) -> Option<()>
     requires { length (elements tables.old.types) < 64 }
-    ensures { MatchBool result (Grown basis (totals_of totals) tables.old tables.new given) (NoTypeFits (length (elements tables.old.types)) given) }
+    ensures { MatchOption result (NoTypeFits (length (elements tables.old.types)) given) (λ _. Grown basis (totals_of totals) tables.old tables.new given) }
 {
-    let Some(made) = type_of(given, tables.types.len()) else {
-        return false;
-    };
-    tables.types.push(made)
+    let made = type_of(given, tables.types.len())?;
+    tables.types.push(made).ok()
 }
 
 /// The last type, where it is a channel.
@@ -85,59 +77,51 @@ fn last_channel(tables: &Tables) -> Option<ChannelType>
     }
 }
 
-/// The entry of a record, at the end of the last channel's; false where it is out of range.
-fn add_entry(tables: &mut Tables, given: Record, basis: Basis, totals: Census) -> bool
+/// The entry of a record, at the end of the last channel's; none where it is out of range.
+fn add_entry(tables: &mut Tables, given: Record, basis: Basis, totals: Census) -> Option<()>
     requires room { Room tables.old entry }
     requires few { totals.names ≤ 64 }
-    ensures { MatchBool result (Grown basis (totals_of totals) tables.old tables.new given) (NoEntryFits basis (totals_of totals) given) }
+    ensures { MatchOption result (NoEntryFits basis (totals_of totals) given) (λ _. Grown basis (totals_of totals) tables.old tables.new given) }
 {
-    let Some(made) = entry_in(given, basis, totals) else {
-        return false;
-    };
-    let Some(mut channel) = last_channel(tables) else {
-        return false;
-    };
-    if !channel.entries.push(made) {
-        return false;
-    }
+    let made = entry_in(given, basis, totals)?;
+    let mut channel = last_channel(tables)?;
+    channel.entries.push(made).ok()?;
     tables.types.replace_last(SheetType::Channel(channel));
-    true
+    Some(())
 }
 
-/// The name of a record, at the end of the names; false where it is out of range.
-fn add_name(tables: &mut Tables, given: Record, basis: Basis, totals: Census) -> bool
+/// The name of a record, at the end of the names; none where it is out of range.
+fn add_name(tables: &mut Tables, given: Record, basis: Basis, totals: Census) -> Option<()>
     requires { length (elements tables.old.names) < 64 }
-    ensures { MatchBool result (Grown basis (totals_of totals) tables.old tables.new given) (NoNameFits (totals_of totals) given) }
+    ensures { MatchOption result (NoNameFits (totals_of totals) given) (λ _. Grown basis (totals_of totals) tables.old tables.new given) }
 {
     match given {
-        Record::Name { sort } if (sort as usize) < totals.types => tables.names.push(sort),
-        _ => false,
+        Record::Name { sort } if usize::from(sort) < totals.types => tables.names.push(sort).ok(),
+        _ => None,
     }
 }
 
-/// The node of a record, at the end of the nodes; false where it is out of range.
-fn add_node(tables: &mut Tables, given: Record, basis: Basis, totals: Census) -> bool
+/// The node of a record, at the end of the nodes; none where it is out of range.
+fn add_node(tables: &mut Tables, given: Record, basis: Basis, totals: Census) -> Option<()>
     requires room { length (elements tables.old.nodes) < 1024 }
     requires few { totals.names ≤ 64 }
-    ensures { MatchBool result (Grown basis (totals_of totals) tables.old tables.new given) (NoNodeFits (totals_of totals) given) }
+    ensures { MatchOption result (NoNodeFits (totals_of totals) given) (λ _. Grown basis (totals_of totals) tables.old tables.new given) }
 {
-    let Some(made) = node_of(given) else {
-        return false;
-    };
+    let made = node_of(given)?;
     if !node_fits(totals.names, totals.nodes, &made) {
-        return false;
+        return None;
     }
-    tables.nodes.push(made)
+    tables.nodes.push(made).ok()
 }
 
-/// What a record means, at its place in the tables; false where it is out of range.
-fn add(tables: &mut Tables, given: Record, basis: Basis, totals: Census) -> bool
+/// What a record means, at its place in the tables; none where it is out of range.
+fn add(tables: &mut Tables, given: Record, basis: Basis, totals: Census) -> Option<()>
     requires room { Room tables.old (class_of given) }
     requires few { totals.names ≤ 64 }
-    ensures { MatchBool result (Grown basis (totals_of totals) tables.old tables.new given) (Fits basis (totals_of totals) (length (elements tables.old.types)) given → ⊥) }
+    ensures { MatchOption result (Fits basis (totals_of totals) (length (elements tables.old.types)) given → ⊥) (λ _. Grown basis (totals_of totals) tables.old tables.new given) }
 {
     match class(given) {
-        Class::Head => false,
+        Class::Head => None,
         Class::Plain | Class::Channel => add_type(tables, given, basis, totals),
         Class::Entry => add_entry(tables, given, basis, totals),
         Class::Name => add_name(tables, given, basis, totals),
@@ -149,14 +133,12 @@ fn add(tables: &mut Tables, given: Record, basis: Basis, totals: Census) -> bool
 fn head_fits(given: Record, basis: Basis) -> bool
     ensures { Decides result (given ≡ head 1 basis.code basis.full) }
 {
-    match given {
-        Record::Head {
-            edition,
-            code,
-            full,
-        } => edition == 1 && code == basis.code && full == basis.full,
-        _ => false,
-    }
+    given
+        == Record::Head {
+            edition: 1,
+            code: basis.code,
+            full: basis.full,
+        }
 }
 
 /// The tables that the records of `bytes` mean, or the number of the first record that is out of range. All records
@@ -178,9 +160,9 @@ pub fn fill(bytes: &[u8], basis: Basis, totals: Census) -> Result<Tables, usize>
         let Some((next, rest)) = read(left) else {
             return Err(place);
         };
-        if !add(&mut tables, next, basis, totals) {
+        let Some(()) = add(&mut tables, next, basis, totals) else {
             return Err(place);
-        }
+        };
         place += 1;
         left = rest;
     }

@@ -1,7 +1,6 @@
 //! Sheets, opened from bytes.
 #![tactic(auto)]
 
-pub mod built;
 mod census;
 pub mod chart;
 mod check;
@@ -14,4 +13,4 @@ mod tree;
 pub mod types;
 
 pub use chart::Chart;
-pub use opened::{OpenedSheet, Sheets, open};
+pub use opened::{OpenedSheet, open};

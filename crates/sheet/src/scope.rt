@@ -18,10 +18,10 @@ fn names_used(node: &Node) -> (Option<u8>, Tuple<u8>)
 {
     match node {
         Node::Send { channel, names } => (Some(*channel), *names),
-        Node::Receive { channel, .. } => (Some(*channel), Tuple::Empty),
-        Node::Test { left, right, .. } => (None, Tuple::Of(Items::Two(*left, *right))),
-        Node::Begin { label, .. } | Node::End { label, .. } => (None, Tuple::Of(label.items)),
-        _ => (None, Tuple::Empty),
+        Node::Receive { channel, .. } => (Some(*channel), Tuple(None)),
+        Node::Test { left, right, .. } => (None, Tuple(Some(Items::Two(*left, *right)))),
+        Node::Begin { label, .. } | Node::End { label, .. } => (None, Tuple(Some(label.items))),
+        _ => (None, Tuple(None)),
     }
 }
 
@@ -106,12 +106,12 @@ fn any_outside(
 fn has_repeats(names: &Tuple<u8>) -> bool
     ensures { result ≡ repeats (parts names.now) }
 {
-    match names {
-        Tuple::Empty | Tuple::Of(Items::One(_)) => false,
-        Tuple::Of(Items::Two(a, b)) => *a == *b,
-        Tuple::Of(Items::Three(a, b, c)) => *a == *b || *a == *c || *b == *c,
-        Tuple::Of(Items::Four(a, b, c, d)) => {
-            *a == *b || *a == *c || *a == *d || *b == *c || *b == *d || *c == *d
+    match names.0 {
+        None | Some(Items::One(_)) => false,
+        Some(Items::Two(a, b)) => a == b,
+        Some(Items::Three(a, b, c)) => a == b || a == c || b == c,
+        Some(Items::Four(a, b, c, d)) => {
+            a == b || a == c || a == d || b == c || b == d || c == d
         }
     }
 }

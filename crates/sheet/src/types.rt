@@ -56,7 +56,7 @@ pub fn components_of(types: &[SheetType], at: usize) -> Tuple<u8>
 {
     match types.get(at) {
         Some(found) => found.components(),
-        None => Tuple::Empty,
+        None => Tuple(None),
     }
 }
 

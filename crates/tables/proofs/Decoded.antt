@@ -1,16 +1,15 @@
 -- What is in range is got back from its record.
-use Rattle.std.proofs.Common.{◌≡◌, ℕ, ◌+◌, ◌-◌, ◌*◌, ◌/◌, ◌%◌, ◌≤◌, true, false, eqb, ltb, map, length, Some, refl, ap, ◌∙◌, ap₂, arith}
+use Rattle.std.proofs.Common.{◌≡◌, ℕ, ◌+◌, ◌-◌, ◌*◌, ◌/◌, ◌%◌, ◌≤◌, true, false, eqb, ltb, map, length, Option, Some, None, refl, ap, ◌∙◌, ap₂, arith}
 use Rattle.std.specs.Option.{option_map}
 use Rattle.std.proofs.lemmas.Bool.{ltb-true, leb-true, lt-ltb, le-ltb, ne_eqb, and_parts, and_from}
 use Rattle.fault.specs.Items.{list}
 use Rattle.fault.specs.declared.items.Items.{Items}
 use Rattle.fault.specs.declared.items.Items.TheVariants.{One, Two, Three, Four}
 use Rattle.fault.specs.declared.label.Label.{Label}
-use Rattle.tables.specs.Encoding.{parts, spread, item_byte, node_record}
+use Rattle.tables.specs.Encoding.{things, parts, spread, item_byte, node_record}
 use Rattle.tables.specs.Decoding.{used, counted, tuple_of, label_of, item_of, longer, items_in, entry_of, node_of}
 use Rattle.tables.specs.Range.{all, below, item_fits, entry_fits, node_fits}
 use Rattle.tables.specs.declared.tuple.Tuple.{Tuple}
-use Rattle.tables.specs.declared.tuple.Tuple.TheVariants.{Empty, Of}
 use Rattle.tables.specs.declared.tables.Item.{Item}
 use Rattle.tables.specs.declared.tables.Item.TheVariants.{Name, Index}
 use Rattle.tables.specs.declared.tables.Entry.{Entry}
@@ -40,12 +39,15 @@ module _ (n : ℕ) (few : n ≤ 255) where
       let s = and_parts _ _ r.1 in
       rw (used_byte n a few p.0, used_byte n b few q.0, used_byte n c few r.0, used_byte n d few s.0) refl
 
+  items_given : (o : Option (Items ℕ)) → below n (things o) ≡ true → tuple_of (length (things o)) (spread (things o)) ≡ Some (record { 0 = o })
+  items_given None h = refl
+  items_given (Some (One a)) h = ap (counted 1) (used_back (One a) h)
+  items_given (Some (Two a b)) h = ap (counted 2) (used_back (Two a b) h)
+  items_given (Some (Three a b c)) h = ap (counted 3) (used_back (Three a b c) h)
+  items_given (Some (Four a b c d)) h = ap (counted 4) (used_back (Four a b c d) h)
+
   pub tuple_back : (xs : Tuple ℕ) → below n (parts xs) ≡ true → tuple_of (length (parts xs)) (spread (parts xs)) ≡ Some xs
-  tuple_back Empty h = refl
-  tuple_back (Of (One a)) h = ap (counted 1) (used_back (One a) h)
-  tuple_back (Of (Two a b)) h = ap (counted 2) (used_back (Two a b) h)
-  tuple_back (Of (Three a b c)) h = ap (counted 3) (used_back (Three a b c) h)
-  tuple_back (Of (Four a b c d)) h = ap (counted 4) (used_back (Four a b c d) h)
+  tuple_back xs = items_given xs.0
 
   pub label_back : (l : Label ℕ) → below n (list l.items) ≡ true → label_of (spread (list l.items)) ≡ Some l
   label_back l h = ap (option_map (λ xs. record { items = xs })) (used_back l.items h)

@@ -10,7 +10,6 @@ use Rattle.records.specs.declared.record.Quad.{Quad}
 use Rattle.records.specs.declared.record.Record.{Record}
 use Rattle.records.specs.declared.record.Record.TheVariants as raw
 use Rattle.tables.specs.declared.tuple.Tuple.{Tuple}
-use Rattle.tables.specs.declared.tuple.Tuple.TheVariants.{Empty, Of}
 use Rattle.tables.specs.declared.tables.Item.{Item}
 use Rattle.tables.specs.declared.tables.Item.TheVariants.{Name, Index}
 use Rattle.tables.specs.declared.tables.Entry.{Entry}
@@ -31,11 +30,11 @@ used q =
 -- so many bytes that are used
 abbrev pub counted : ℕ → Option (Items ℕ) → Option (Tuple ℕ)
 counted n None = None
-counted n (Some xs) = cond (length (list xs) == n) (Some (Of xs)) None
+counted n (Some xs) = cond (length (list xs) == n) (Some (record { 0 = Some xs })) None
 
 abbrev pub tuple_of : ℕ → Quad → Option (Tuple ℕ)
 tuple_of n q =
-    cond (n == 0) (cond ((unused q.0 && unused q.1) && (unused q.2 && unused q.3)) (Some Empty) None) (counted n (used q))
+    cond (n == 0) (cond ((unused q.0 && unused q.1) && (unused q.2 && unused q.3)) (Some (record { 0 = None })) None) (counted n (used q))
 
 abbrev pub label_of : Quad → Option (Label ℕ)
 label_of q = option_map (λ xs. record { items = xs }) (used q)

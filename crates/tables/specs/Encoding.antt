@@ -1,14 +1,14 @@
 -- A sheet as its records, in the order of the file: the head, each type with its entries, the names, the nodes.
-use Rattle.std.specs.Prelude.{ℕ, ◌+◌, ◌-◌, ◌*◌, List, [], ◌∷◌, ◌++◌, map, length, slice_index_or}
+use Rattle.std.specs.Prelude.{ℕ, ◌+◌, ◌-◌, ◌*◌, List, [], ◌∷◌, ◌++◌, map, length, Some, None, Option, slice_index_or}
 use Rattle.std.specs.List.{flat_map}
 use Rattle.fault.specs.Items.{list}
+use Rattle.fault.specs.declared.items.Items.{Items}
 use Rattle.tables.specs.Elements.{elements}
 use Rattle.tables.specs.declared.basis.Basis.{Basis}
 use Rattle.records.specs.declared.record.Quad.{Quad}
 use Rattle.records.specs.declared.record.Record.{Record}
 use Rattle.records.specs.declared.record.Record.TheVariants as raw
 use Rattle.tables.specs.declared.tuple.Tuple.{Tuple}
-use Rattle.tables.specs.declared.tuple.Tuple.TheVariants.{Empty, Of}
 use Rattle.tables.specs.declared.tables.Item.{Item}
 use Rattle.tables.specs.declared.tables.Item.TheVariants.{Name, Index}
 use Rattle.tables.specs.declared.tables.Entry.{Entry}
@@ -19,9 +19,12 @@ use Rattle.tables.specs.declared.tables.Node.TheVariants.{Stop, Send, Receive, B
 use Rattle.tables.specs.declared.tables.Tables.{Tables}
 
 -- the things of a tuple in their order
+abbrev pub things : {T : Type 0} → Option (Items T) → List T
+things None = []
+things (Some items) = list items
+
 abbrev pub parts : {T : Type 0} → Tuple T → List T
-parts Empty = []
-parts (Of items) = list items
+parts t = things t.0
 
 -- four bytes that begin with these; those that are not used hold 255
 abbrev pub spread : List ℕ → Quad

@@ -33,13 +33,13 @@ pub fn tuple_of(count: u8, bytes: Quad) -> Option<Tuple<u8>>
 {
     if count == 0 {
         return match bytes {
-            Quad(255, 255, 255, 255) => Some(Tuple::Empty),
+            Quad(255, 255, 255, 255) => Some(Tuple(None)),
             _ => None,
         };
     }
     let items = used(bytes)?;
     if items.count() == count as usize {
-        Some(Tuple::Of(items))
+        Some(Tuple(Some(items)))
     } else {
         None
     }
@@ -74,17 +74,7 @@ fn items_of(bytes: Items<u8>) -> Option<Items<Item>>
     ensures value { result ≡ decoding.items_of bytes }
     ensures back { IfSome result (λ xs. map item_byte (list xs) ≡ list bytes) }
 {
-    match bytes {
-        Items::One(a) => Some(Items::One(item_of(a)?)),
-        Items::Two(a, b) => Some(Items::Two(item_of(a)?, item_of(b)?)),
-        Items::Three(a, b, c) => Some(Items::Three(item_of(a)?, item_of(b)?, item_of(c)?)),
-        Items::Four(a, b, c, d) => Some(Items::Four(
-            item_of(a)?,
-            item_of(b)?,
-            item_of(c)?,
-            item_of(d)?,
-        )),
-    }
+    bytes.try_map(item_of)
 }
 
 /// The entry that is written so.

@@ -9,6 +9,6 @@ pub mod tables;
 pub mod tuple;
 
 pub use basis::Basis;
-pub use table::Table;
+pub use table::{Full, Table};
 pub use tables::{ChannelType, Entry, Item, Node, SheetType, Tables};
 pub use tuple::Tuple;

@@ -12,29 +12,14 @@ use fault::Items;
 fn items_below(limit: usize, items: &Items<u8>) -> bool
     ensures { result ≡ range.below limit (list items.now) }
 {
-    match *items {
-        Items::One(a) => (a as usize) < limit,
-        Items::Two(a, b) => (a as usize) < limit && (b as usize) < limit,
-        Items::Three(a, b, c) => (a as usize) < limit
-            && (b as usize) < limit
-            && (c as usize) < limit,
-        Items::Four(a, b, c, d) => {
-            (a as usize) < limit
-                && (b as usize) < limit
-                && (c as usize) < limit
-                && (d as usize) < limit
-        }
-    }
+    items.all(|x| usize::from(x) < limit)
 }
 
 /// Whether each number is below `limit`.
 pub fn tuple_below(limit: usize, tuple: &Tuple<u8>) -> bool
     ensures { result ≡ range.below limit (parts tuple.now) }
 {
-    match tuple {
-        Tuple::Empty => true,
-        Tuple::Of(items) => items_below(limit, items),
-    }
+    tuple.all(|x| usize::from(x) < limit)
 }
 
 /// Whether an item is in range, where there are so many names.
@@ -42,7 +27,7 @@ fn item_fits(names: usize, item: Item) -> bool
     ensures { result ≡ range.item_fits names item }
 {
     match item {
-        Item::Name(name) => (name as usize) < names,
+        Item::Name(name) => usize::from(name) < names,
         Item::Index { arrows, position } => arrows <= 3 && 1 <= position && position <= 4,
     }
 }
@@ -51,14 +36,7 @@ fn item_fits(names: usize, item: Item) -> bool
 fn items_fit(names: usize, items: &Items<Item>) -> bool
     ensures { result ≡ range.all (range.item_fits names) (list items.now) }
 {
-    match *items {
-        Items::One(a) => item_fits(names, a),
-        Items::Two(a, b) => item_fits(names, a) && item_fits(names, b),
-        Items::Three(a, b, c) => item_fits(names, a) && item_fits(names, b) && item_fits(names, c),
-        Items::Four(a, b, c, d) => {
-            item_fits(names, a) && item_fits(names, b) && item_fits(names, c) && item_fits(names, d)
-        }
-    }
+    items.all(|x| item_fits(names, x))
 }
 
 /// Whether an entry is in range: its amount is 1 to the largest, and its items are.
@@ -77,28 +55,30 @@ pub fn node_fits(names: usize, nodes: usize, node: &Node) -> bool
         Node::Send {
             channel,
             names: sent,
-        } => (channel as usize) < names && tuple_below(names, &sent),
+        } => usize::from(channel) < names && tuple_below(names, &sent),
         Node::Receive {
             channel,
             names: bound,
             next,
-        } => { (channel as usize) < names && tuple_below(names, &bound) && (next as usize) < nodes }
-        Node::Both { first, second } => (first as usize) < nodes && (second as usize) < nodes,
-        Node::Copy { next } => (next as usize) < nodes,
-        Node::New { name, next } => (name as usize) < names && (next as usize) < nodes,
+        } => {
+            usize::from(channel) < names && tuple_below(names, &bound) && usize::from(next) < nodes
+        }
+        Node::Both { first, second } => usize::from(first) < nodes && usize::from(second) < nodes,
+        Node::Copy { next } => usize::from(next) < nodes,
+        Node::New { name, next } => usize::from(name) < names && usize::from(next) < nodes,
         Node::Test {
             left,
             right,
             same,
             other,
         } => {
-            (left as usize) < names
-                && (right as usize) < names
-                && (same as usize) < nodes
-                && (other as usize) < nodes
+            usize::from(left) < names
+                && usize::from(right) < names
+                && usize::from(same) < nodes
+                && usize::from(other) < nodes
         }
         Node::Begin { label, next } | Node::End { label, next } => {
-            items_below(names, &label.items) && (next as usize) < nodes
+            items_below(names, &label.items) && usize::from(next) < nodes
         }
     }
 }

@@ -1,15 +1,34 @@
 //! A list of bounded length in a fixed place.
-ghost use Rattle.std.specs.Prelude.{◌≡◌, ◌<◌, ◌≤◌, [], ◌∷◌, ◌++◌, length, MatchBool};
-ghost use Rattle.tables.specs.Elements.{elements, last_of, with_last};
+ghost use Rattle.std.specs.Prelude.{◌≡◌, ◌<◌, ◌≤◌, [], ◌∷◌, ◌++◌, length, MatchResult, ⊤};
+
+use std::alloc::AllocError;
 
 /// At most N things in order: the first `count` of the places.
-#[derive(Clone, Copy)]
 pub struct Table<T, const N: usize> {
     items: [T; N],
     count: usize,
+    ghost within: { count ≤ N },
+}
+
+/// All places of a table are used.
+#[derive(Clone, Copy, PartialEq, Eq, Debug)]
+pub struct Full;
+
+impl<T: Copy, const N: usize> Copy for Table<T, N> {}
+
+impl<T: Copy, const N: usize> Clone for Table<T, N> {
+    ghost is_clone = { λ x y. y ≡ x };
+
+    ghost is_infallible = { λ _. ⊤ };
+
+    fn clone(&self) -> Result<Table<T, N>, AllocError> {
+        Ok(*self)
+    }
 }
 
 impl<T: Copy, const N: usize> Table<T, N> {
+    ghost use Rattle.tables.specs.Elements.{elements, last_of, with_last};
+
     /// A table of nothing; `filler` stands in the places until they are used.
     pub fn new(filler: T) -> Table<T, N>
         ensures { elements result ≡ [] }
@@ -25,9 +44,7 @@ impl<T: Copy, const N: usize> Table<T, N> {
         ensures value { result.now ≡ elements self.now }
         ensures within { length result.now ≤ N }
     {
-        let all = &self.items[..];
-        let used = self.count.min(all.len());
-        &all[0..used]
+        &self.items[..self.count]
     }
 
     /// How many there are.
@@ -45,27 +62,24 @@ impl<T: Copy, const N: usize> Table<T, N> {
         self.as_slice().last().copied()
     }
 
-    /// One thing more at the end; false, and nothing changed, exactly where all places are used.
-    pub fn push(&mut self, item: T) -> bool
-        ensures { MatchBool result (elements self.new ≡ elements self.old ++ item ∷ []) ((self.new ≡ self.old) × (N ≤ length (elements self.old))) }
+    /// One thing more at the end; where all places are used, an error, and nothing changes.
+    pub fn push(&mut self, item: T) -> Result<(), Full>
+        ensures { MatchResult result (λ _. elements self.new ≡ elements self.old ++ item ∷ []) (λ _. (self.new ≡ self.old) × (N ≤ length (elements self.old))) }
     {
-        let len = self.len();
-        if len < N {
-            self.items[len] = item;
-            self.count = len + 1;
-            true
-        } else {
-            false
+        if self.count == N {
+            return Err(Full);
         }
+        self.items[self.count] = item;
+        self.count += 1;
+        Ok(())
     }
 
     /// Another thing in the place of the last; nothing changes where there is none.
     pub fn replace_last(&mut self, item: T)
         ensures { elements self.new ≡ with_last (elements self.old) item }
     {
-        let len = self.len();
-        if len > 0 {
-            self.items[len - 1] = item;
+        if self.count > 0 {
+            self.items[self.count - 1] = item;
         }
     }
 }

@@ -3,10 +3,11 @@ ghost use Rattle.std.specs.Prelude.{◌≡◌, []};
 ghost use Rattle.tables.specs.Elements.{elements};
 ghost use Rattle.tables.specs.Encoding.{parts};
 ghost use Rattle.tables.specs.Channels.{components, entries};
+ghost use Rattle.std.proofs.Common.{rules};
 
 use crate::table::Table;
 use crate::tuple::Tuple;
-use fault::Label;
+use fault::{Exact, Label};
 
 /// An item of an entry's label: a name of the sheet, or a place in a message. Index `position` (from 1) under no
 /// arrow is that argument of the type's own channel, and under u arrows that of the channel u levels further out.
@@ -14,6 +15,10 @@ use fault::Label;
 pub enum Item {
     Name(u8),
     Index { arrows: u8, position: u8 },
+}
+
+impl Exact for Item {
+    ghost exact = { Prim.search rules };
 }
 
 /// What a message on a channel carries of one right.
@@ -115,7 +120,7 @@ impl SheetType {
     {
         match self {
             SheetType::Channel(channel) => channel.components,
-            _ => Tuple::Empty,
+            _ => Tuple(None),
         }
     }
 

@@ -1,35 +1,50 @@
 //! None to four things in order: the arguments of a message, the components of a channel.
-ghost use Rattle.std.specs.Prelude.{◌≡◌, length};
-ghost use Rattle.fault.specs.Items.{nth};
+ghost use Rattle.std.specs.Prelude.{◌≡◌, length, take};
+ghost use Rattle.std.specs.List.{All};
+ghost use Rattle.fault.specs.Items.{nth, AllAnswer, AnyAnswer};
 ghost use Rattle.tables.specs.Encoding.{parts};
 
 use fault::Items;
 
 /// None to four things, in order.
 #[derive(Clone, Copy, PartialEq, Eq, Debug)]
-pub enum Tuple<T> {
-    Empty,
-    Of(Items<T>),
-}
+pub struct Tuple<T>(pub Option<Items<T>>);
 
 impl<T: Copy> Tuple<T> {
     /// How many there are.
     pub fn count(&self) -> usize
         ensures { result ≡ length (parts self.now) }
     {
-        match self {
-            Tuple::Empty => 0,
-            Tuple::Of(items) => items.count(),
-        }
+        self.0.map_or(0, |items| items.count())
     }
 
     /// The one at a place, counted from 0, or none.
     pub fn get(&self, place: usize) -> Option<T>
         ensures { result ≡ nth (parts self.now) place }
     {
-        match self {
-            Tuple::Empty => None,
-            Tuple::Of(items) => items.get(place),
-        }
+        self.0.and_then(|items| items.get(place))
+    }
+
+    /// The first of them, so many; all of them where there are no more.
+    pub fn first(&self, count: usize) -> Tuple<T>
+        ensures { parts result ≡ take count (parts self.now) }
+    {
+        Tuple(self.0.and_then(|items| items.first(count)))
+    }
+
+    /// Whether each passes the test; the first that fails ends it.
+    pub fn all<F: Fn(T) -> bool>(&self, test: F) -> bool
+        requires { All (F.pre test) (parts self.now) }
+        ensures { AllAnswer (F.post test) (parts self.now) result }
+    {
+        self.0.is_none_or(|items| items.all(test))
+    }
+
+    /// Whether one passes the test; the first that does ends it.
+    pub fn any<F: Fn(T) -> bool>(&self, test: F) -> bool
+        requires { All (F.pre test) (parts self.now) }
+        ensures { AnyAnswer (F.post test) (parts self.now) result }
+    {
+        self.0.is_some_and(|items| items.any(test))
     }
 }

@@ -1,5 +1,5 @@
 -- Entries with arguments put in, one after another.
-use Rattle.std.proofs.Common.{◌≡◌, ℕ, ◌+◌, ◌<◌, ◌≤◌, Bool, true, false, List, [], ◌∷◌, ◌++◌, map, length, get_or, take, MatchBool, sym, ap, ◌∙◌, subst, ap₂, arith}
+use Rattle.std.proofs.Common.{◌≡◌, ℕ, ◌+◌, ◌<◌, ◌≤◌, Bool, true, false, List, [], ◌∷◌, ◌++◌, map, length, get_or, take, MatchResult, Result, Ok, Err, sym, ap, ◌∙◌, subst, ap₂, arith}
 use Rattle.std.proofs.lemmas.List.{map_push, map_more, length-map, length-take-le}
 use Rattle.std.proofs.ByRecursion.{All-map}
 use Rattle.calculus.specs.Countings.{Operations}
@@ -11,9 +11,9 @@ use Rattle.meaning.specs.Types.{entry}
 use Rattle.uses.specs.Entries.{Small, Placed, SoundEntries}
 
 -- a table with room takes what is pushed
-pub pushed : (A B : Type 0) (b : Bool) (n : ℕ) → n < 8 → MatchBool b A (B × (8 ≤ n)) → A
-pushed A B true n l h = h
-pushed A B false n l h = absurd (omega (arith, l, h.1))
+pub pushed : {T E : Type 0} (A B : Type 0) (r : Result T E) (n : ℕ) → n < 8 → MatchResult r (λ _. A) (λ _. B × (8 ≤ n)) → A
+pushed A B (Ok x) n l h = h
+pushed A B (Err x) n l h = absurd (omega (arith, l, h.1))
 
 same_entry : (l m : Label calculus.Item) (a b : ℕ) → l ≡ m → a ≡ b → ◌≡◌ {A = calculus.Entry} (record { label = l; amount = a }) (record { label = m; amount = b })
 same_entry l m a b p q = cc

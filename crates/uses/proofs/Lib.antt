@@ -1,7 +1,6 @@
 pub mod Filling
 pub mod Comparing
-pub mod Stacking
 pub mod Heads
-pub mod Walking
+pub mod Within
 pub mod Opened
 pub mod Required

@@ -18,7 +18,7 @@ use Rattle.sheet.specs.Opening.{Sound, bad_type}
 use Rattle.sheet.specs.Types.{type_at, nests, too_deep}
 use Rattle.meaning.proofs.Opened.{fits_at, small_entries}
 use Rattle.uses.specs.Entries.{placed, Placed, SoundEntries}
-use Rattle.uses.proofs.Walking.{inner_nests}
+use Rattle.uses.proofs.Within.{inner_nests}
 
 -- items in range have positions from 1
 item_placed : (names : ℕ) (x : Item) → item_fits names x ≡ true → placed x ≡ true

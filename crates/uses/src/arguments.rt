@@ -3,52 +3,44 @@ ghost use Rattle.std.specs.Prelude.{◌≡◌, length, Decides, slice_index};
 ghost use Rattle.calculus.specs.Types.{SameType, required};
 ghost use Rattle.tables.specs.Elements.{elements};
 ghost use Rattle.tables.specs.Encoding.{parts};
-ghost use Rattle.sheet.specs.Opening.{Sound};
 ghost use Rattle.sheet.specs.Tree.{node_at};
 ghost use Rattle.meaning.specs.Failures.{FirstFailure};
 ghost use Rattle.meaning.specs.Types.{types_of};
 ghost use Rattle.meaning.specs.Uses.{ArgumentsFit, TypesFit};
 
 use crate::equal::same_type;
-use crate::fill::first_names;
 use crate::lookup::{number_at, type_at, type_of};
 use counting::Counting;
-use tables::tables::{Node, SheetType, Tables};
+use sheet::OpenedSheet;
+use tables::tables::{Node, SheetType};
 use tables::tuple::Tuple;
 
 /// The first node that sends or receives a name that has not the required type, or none.
-pub(crate) fn first_mistyped<C: Counting>(counting: &C, tables: &Tables) -> Option<usize>
-    requires { Sound (C.Counting.operations counting.now).largest tables.now }
-    ensures { FirstFailure (λ n. TypesFit (C.Counting.operations counting.now) (types_of tables.now) (node_at (elements tables.now.nodes) n)) (length (elements tables.now.nodes)) result }
+pub(crate) fn first_mistyped<C: Counting>(sheet: &OpenedSheet<C>) -> Option<usize>
+    ensures { FirstFailure (λ n. TypesFit (C.Counting.operations sheet.now.counting) (types_of sheet.now.tables) (node_at (elements sheet.now.tables.nodes) n)) (length (elements sheet.now.tables.nodes)) result }
 {
-    for (n, node) in tables.nodes.as_slice().iter().enumerate() {
-        if !types_fit(counting, tables, node) {
-            return Some(n);
-        }
-    }
-    None
+    let nodes = sheet.tables().nodes.as_slice();
+    nodes.iter().position(|node| !types_fit(sheet, node))
 }
 
 /// Whether each name that the node sends or receives has the required type.
-fn types_fit<C: Counting>(counting: &C, tables: &Tables, node: &Node) -> bool
-    requires { Sound (C.Counting.operations counting.now).largest tables.now }
-    ensures { Decides result (TypesFit (C.Counting.operations counting.now) (types_of tables.now) node.now) }
+fn types_fit<C: Counting>(sheet: &OpenedSheet<C>, node: &Node) -> bool
+    ensures { Decides result (TypesFit (C.Counting.operations sheet.now.counting) (types_of sheet.now.tables) node.now) }
 {
     match node {
         Node::Send { channel, names } | Node::Receive { channel, names, .. } => {
-            arguments_fit(counting, tables, *channel, *names)
+            arguments_fit(sheet, *channel, *names)
         }
         _ => true,
     }
 }
 
 /// Whether each of the names has the type that the channel requires at its place.
-fn arguments_fit<C: Counting>(counting: &C, tables: &Tables, channel: u8, names: Tuple<u8>) -> bool
-    requires { Sound (C.Counting.operations counting.now).largest tables.now }
-    ensures { Decides result (ArgumentsFit (C.Counting.operations counting.now) (types_of tables.now) channel (parts names)) }
+fn arguments_fit<C: Counting>(sheet: &OpenedSheet<C>, channel: u8, names: Tuple<u8>) -> bool
+    ensures { Decides result (ArgumentsFit (C.Counting.operations sheet.now.counting) (types_of sheet.now.tables) channel (parts names)) }
 {
     for place in 0..names.count() {
-        if !argument_fits(counting, tables, channel, names, place) {
+        if !argument_fits(sheet, channel, names, place) {
             return false;
         }
     }
@@ -57,24 +49,23 @@ fn arguments_fit<C: Counting>(counting: &C, tables: &Tables, channel: u8, names:
 
 /// Whether the name at a place has the type that the channel requires there.
 fn argument_fits<C: Counting>(
-    counting: &C,
-    tables: &Tables,
+    sheet: &OpenedSheet<C>,
     channel: u8,
     names: Tuple<u8>,
     place: usize,
 ) -> bool
-    requires { Sound (C.Counting.operations counting.now).largest tables.now }
-    ensures { Decides result (SameType (C.Counting.operations counting.now) (types_of tables.now (slice_index (parts names) place)) (required (types_of tables.now channel) (parts names) place)) }
+    ensures { Decides result (SameType (C.Counting.operations sheet.now.counting) (types_of sheet.now.tables (slice_index (parts names) place)) (required (types_of sheet.now.tables channel) (parts names) place)) }
 {
+    let tables = sheet.tables();
     let types = tables.types.as_slice();
     let own = type_of(tables, number_at(&names, place));
     match type_at(types, type_of(tables, channel)) {
         SheetType::Pure => is_pure(&type_at(types, own)),
         SheetType::Public => is_public(&type_at(types, own)),
         SheetType::Channel(found) => {
-            let earlier = first_names(names, place);
+            let earlier = names.first(place);
             let component = number_at(&found.components, place) as usize;
-            same_type(counting, types, &earlier, own, component)
+            same_type(&sheet.counting(), types, &earlier, 1, own, component)
         }
     }
 }

@@ -14,12 +14,8 @@ use tables::tables::{Node, SheetType, Tables};
 pub(crate) fn first_miscounted(tables: &Tables) -> Option<usize>
     ensures { FirstFailure (λ n. CountFits (types_of tables.now) (node_at (elements tables.now.nodes) n)) (length (elements tables.now.nodes)) result }
 {
-    for (n, node) in tables.nodes.as_slice().iter().enumerate() {
-        if !count_fits(tables, node) {
-            return Some(n);
-        }
-    }
-    None
+    let nodes = tables.nodes.as_slice();
+    nodes.iter().position(|node| !count_fits(tables, node))
 }
 
 /// Whether the node uses no channel, or one that takes as many names as go with it.

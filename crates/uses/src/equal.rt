@@ -1,68 +1,46 @@
 //! Types compared, the right one with arguments put in.
-ghost use Rattle.std.specs.Prelude.{◌≡◌, ℕ, ◌+◌, ◌≤◌, true, length, Decides};
-ghost use Rattle.calculus.specs.Types.{SameType, fill_type};
+ghost use Rattle.std.specs.Prelude.{◌≡◌, ℕ, ◌-◌, true, Decides};
 ghost use Rattle.tables.specs.Channels.{entries};
 ghost use Rattle.tables.specs.Encoding.{parts};
 ghost use Rattle.sheet.specs.Types.{type_at, nests};
-ghost use Rattle.meaning.specs.Types.{type_within};
 ghost use Rattle.uses.specs.Entries.{SoundEntries};
-ghost use Rattle.uses.specs.Pairs.{SameHead, stacked};
-ghost use Rattle.uses.specs.Waiting.{waiting};
+ghost use Rattle.uses.specs.Pairs.{SameHead, SameWithin};
 
 use crate::effects::same_effects;
 use crate::fill::fill_entries;
 use crate::lookup::{number_at, type_at};
-use crate::pending::{Pair, Pending};
 use counting::Counting;
 use tables::tables::{ChannelType, SheetType};
 use tables::tuple::Tuple;
 
-/// Whether type `left` is type `right` with the arguments put in, as a component of a channel has it: the pairs of types
-/// that have to be the same are compared one by one, and those of their components wait until their turn.
+/// Whether type `left` is type `right` with the arguments put in at this level, as a component of a channel has it at
+/// level 1: their heads are the same, and so are their components in turn, one level further in.
 pub(crate) fn same_type<C: Counting>(
     counting: &C,
     types: &[SheetType],
     arguments: &Tuple<u8>,
+    level: usize,
     left: usize,
     right: usize,
 ) -> bool
     requires sound { (i : ℕ) → SoundEntries (C.Counting.operations counting.now) (entries (type_at types.now i)) }
-    requires shallow { nests types.now 3 right ≡ true }
-    ensures { Decides result (SameType (C.Counting.operations counting.now) (type_within types.now 4 left) (fill_type (parts arguments.now) 1 (type_within types.now 3 right))) }
+    requires shallow { nests types.now (4 - level) right ≡ true }
+    ensures { Decides result (SameWithin (C.Counting.operations counting.now) types.now (parts arguments.now) level (4 - level) left right) }
 {
-    let mut pending = Pending::new(Pair {
-        left,
-        right,
-        level: 1,
-    });
-    while let Some(pair) = pending.pop() {
-        let a = type_at(types, pair.left);
-        let b = type_at(types, pair.right);
-        if !same_head(counting, arguments, pair.level, &a, &b) {
+    let a = type_at(types, left);
+    let b = type_at(types, right);
+    if !same_head(counting, arguments, level, &a, &b) {
+        return false;
+    }
+    let (lefts, rights) = (a.components(), b.components());
+    for place in 0..lefts.count() {
+        let component = number_at(&lefts, place) as usize;
+        let required = number_at(&rights, place) as usize;
+        if !same_type(counting, types, arguments, level + 1, component, required) {
             return false;
         }
-        push_components(
-            &a.components(),
-            &b.components(),
-            pair.level + 1,
-            &mut pending,
-        );
     }
     true
-}
-
-/// Puts the pairs of components on top, for this level.
-fn push_components(left: &Tuple<u8>, right: &Tuple<u8>, level: usize, pending: &mut Pending)
-    requires { length (waiting pending.old) + length (parts left.now) ≤ 8 }
-    ensures { waiting pending.new ≡ stacked (parts left.now) (parts right.now) level (length (parts left.now)) (waiting pending.old) }
-{
-    for place in 0..left.count() {
-        pending.push(Pair {
-            left: number_at(left, place) as usize,
-            right: number_at(right, place) as usize,
-            level,
-        });
-    }
 }
 
 /// Whether two types are of one kind and, for channels, have equal counts and effects, once the arguments are put into

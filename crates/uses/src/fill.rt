@@ -13,43 +13,6 @@ use tables::table::Table;
 use tables::tables::{Entry, Item};
 use tables::tuple::Tuple;
 
-/// The first of some names, so many; all of them where there are no more.
-pub(crate) fn first_names(names: Tuple<u8>, count: usize) -> Tuple<u8>
-    ensures { parts result ≡ take count (parts names) }
-{
-    match names {
-        Tuple::Empty => Tuple::Empty,
-        Tuple::Of(items) => first_items(items, count),
-    }
-}
-
-/// The first of some names, so many; all of them where there are no more.
-fn first_items(items: Items<u8>, count: usize) -> Tuple<u8>
-    ensures { parts result ≡ take count (parts (Tuple.Of items)) }
-{
-    if items.count() <= count {
-        return Tuple::Of(items);
-    }
-    match items {
-        Items::One(_) => Tuple::Empty,
-        Items::Two(a, _) => match count {
-            0 => Tuple::Empty,
-            _ => Tuple::Of(Items::One(a)),
-        },
-        Items::Three(a, b, _) => match count {
-            0 => Tuple::Empty,
-            1 => Tuple::Of(Items::One(a)),
-            _ => Tuple::Of(Items::Two(a, b)),
-        },
-        Items::Four(a, b, c, _) => match count {
-            0 => Tuple::Empty,
-            1 => Tuple::Of(Items::One(a)),
-            2 => Tuple::Of(Items::Two(a, b)),
-            _ => Tuple::Of(Items::Three(a, b, c)),
-        },
-    }
-}
-
 /// The item with the arguments put in: an index of this level becomes the argument at its position, if there is one;
 /// any other item stays.
 fn fill_item(arguments: &Tuple<u8>, level: usize, item: Item) -> Item
@@ -60,11 +23,10 @@ fn fill_item(arguments: &Tuple<u8>, level: usize, item: Item) -> Item
     match item {
         Item::Name(_) => item,
         Item::Index { arrows, position } => {
-            if arrows as usize == level {
-                match arguments.get(position as usize - 1) {
-                    Some(name) => Item::Name(name),
-                    None => item,
-                }
+            if usize::from(arrows) == level {
+                arguments
+                    .get(usize::from(position) - 1)
+                    .map_or(item, Item::Name)
             } else {
                 item
             }
@@ -78,24 +40,7 @@ fn fill_label(arguments: &Tuple<u8>, level: usize, label: Label<Item>) -> Label<
     ensures value { label_of meant.item result.items ≡ map_label (fill_item (parts arguments.now) level) (label_of meant.item label.items) }
     ensures placed { placed_label result ≡ true }
 {
-    let items = match label.items {
-        Items::One(a) => Items::One(fill_item(arguments, level, a)),
-        Items::Two(a, b) => Items::Two(
-            fill_item(arguments, level, a),
-            fill_item(arguments, level, b),
-        ),
-        Items::Three(a, b, c) => Items::Three(
-            fill_item(arguments, level, a),
-            fill_item(arguments, level, b),
-            fill_item(arguments, level, c),
-        ),
-        Items::Four(a, b, c, d) => Items::Four(
-            fill_item(arguments, level, a),
-            fill_item(arguments, level, b),
-            fill_item(arguments, level, c),
-            fill_item(arguments, level, d),
-        ),
-    };
+    let items = label.items.map(|item| fill_item(arguments, level, item));
     Label { items }
 }
 

@@ -14,22 +14,22 @@ mod effects;
 mod equal;
 mod fill;
 mod lookup;
-mod pending;
 
 use arguments::first_mistyped;
+use counting::Counting;
 use counts::first_miscounted;
-use sheet::{OpenedSheet, Sheets};
+use sheet::OpenedSheet;
 
 /// The first node whose channel is pure or takes another count of names, or none.
-pub fn first_bad_channel<C: Sheets>(sheet: &OpenedSheet<C>) -> Option<usize>
-    ensures { FirstFailure (λ n. CountFits (types_of (C.Sheets.held sheet.now.sheet)) (node_at (elements (C.Sheets.held sheet.now.sheet).nodes) n)) (length (elements (C.Sheets.held sheet.now.sheet).nodes)) result }
+pub fn first_bad_channel<C: Counting>(sheet: &OpenedSheet<C>) -> Option<usize>
+    ensures { FirstFailure (λ n. CountFits (types_of sheet.now.tables) (node_at (elements sheet.now.tables.nodes) n)) (length (elements sheet.now.tables.nodes)) result }
 {
-    first_miscounted(&sheet.tables())
+    first_miscounted(sheet.tables())
 }
 
 /// The first node that sends or receives a name that has not the required type, or none.
-pub fn first_wrong_type<C: Sheets>(sheet: &OpenedSheet<C>) -> Option<usize>
-    ensures { FirstFailure (λ n. TypesFit (C.Counting.operations (C.Sheets.own sheet.now.sheet)) (types_of (C.Sheets.held sheet.now.sheet)) (node_at (elements (C.Sheets.held sheet.now.sheet).nodes) n)) (length (elements (C.Sheets.held sheet.now.sheet).nodes)) result }
+pub fn first_wrong_type<C: Counting>(sheet: &OpenedSheet<C>) -> Option<usize>
+    ensures { FirstFailure (λ n. TypesFit (C.Counting.operations sheet.now.counting) (types_of sheet.now.tables) (node_at (elements sheet.now.tables.nodes) n)) (length (elements sheet.now.tables.nodes)) result }
 {
-    first_mistyped(&sheet.counting(), &sheet.tables())
+    first_mistyped(sheet)
 }

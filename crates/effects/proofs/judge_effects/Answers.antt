@@ -17,19 +17,19 @@ new-requires g c = omega (arith, c.tables-tables.ensures.sound.limited.nodes, c.
 
 pub returns-then-rows-lt-ENOUGH : goal.returns-then-rows-lt-ENOUGH
 returns-then-rows-lt-ENOUGH g c =
-    let s = c.args.sheet.now.sheet in
-    let v = g.C.Sheets.own s in
+    let s = c.args.sheet.now in
+    let v = s.counting in
     record {
-      first = few_told (g.C.Counting.operations v) (g.met.C.Counting.lawful v) (g.C.Sheets.held s) (length c.args.rows.now) c.if-rows-lt-ENOUGH.true;
+      first = few_told (g.C.Counting.operations v) (g.met.C.Counting.lawful v) s.tables (length c.args.rows.now) c.if-rows-lt-ENOUGH.true;
       zero = c.clear_rows.ensures;
     }
 
 pub returns-in-None : goal.returns-in-None
 returns-in-None g c =
-    let s = c.args.sheet.now.sheet in
-    let v = g.C.Sheets.own s in
+    let s = c.args.sheet.now in
+    let v = s.counting in
     let K = g.C.Counting.operations v in
-    let t = g.C.Sheets.held s in
+    let t = s.tables in
     let k = ap g.C.Counting.operations (c.new.ensures.counting ∙ c.counting.ensures) in
     let e = c.tables-tables.ensures.value in
     let nodes = c.new.ensures.nodes ∙ ap (λ (x : Tables). elements x.nodes) e in
@@ -43,10 +43,10 @@ returns-in-None g c =
 
 pub returns-in-Some : goal.returns-in-Some
 returns-in-Some g c =
-    let s = c.args.sheet.now.sheet in
-    let v = g.C.Sheets.own s in
+    let s = c.args.sheet.now in
+    let v = s.counting in
     let K = g.C.Counting.operations v in
-    let t = g.C.Sheets.held s in
+    let t = s.tables in
     let f = c.in-Some.found in
     let k = ap g.C.Counting.operations (c.new.ensures.counting ∙ c.counting.ensures) in
     let e = c.tables-tables.ensures.value in

@@ -12,15 +12,15 @@ use Rattle.meaning.proofs.node_count.Goals as goal
 
 pub returns : goal.returns
 returns g c =
-    let s = c.args.sheet.now.sheet in
-    let sound = g.met.C.Sheets.sound s in
-    let K = g.C.Counting.operations (g.C.Sheets.own s) in
+    let s = c.args.sheet.now in
+    let sound = s.sound in
+    let K = g.C.Counting.operations s.counting in
     let count = c.len.ensures.value ∙ ap (λ (t : Tables). length (elements t.nodes)) c.tables.ensures.value in
     record {
       value = count;
       unfolds = process_unfolds _ (tree_of _ _ sound);
       scoped = sheet_scoped _ _ sound;
-      small = subst (λ n. size (process_at (elements (g.C.Sheets.held s).nodes) 0) ≤ n) (sym count) (root_size K _ sound);
+      small = subst (λ n. size (process_at (elements s.tables.nodes) 0) ≤ n) (sym count) (root_size K _ sound);
       entries = entries_small K _ sound;
       amounts = by_steps K _ sound;
       judging = (checked K _ _ _ (sheet_scoped _ _ sound), judged K _ _ _);

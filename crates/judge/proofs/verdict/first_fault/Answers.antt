@@ -1,36 +1,30 @@
-use Rattle.std.proofs.Common.{length, Option, refl, subst}
-use Rattle.std.proofs.lemmas.Bool.{false≢true}
-use Rattle.fault.specs.declared.fault.Fault.{Fault}
+use Rattle.std.proofs.Common.{◌≤◌, length, refl, subst, arith}
+use Rattle.std.proofs.lemmas.Result.{err_from_is_err_and}
 use Rattle.sheet.specs.Opening.{fault_of}
 use Rattle.meaning.specs.Faults.{Faulty, FirstTold}
-use Rattle.judge.proofs.Verdicts.{ok_none, few_first, types_first, effects_first, unfaulted_accepted}
+use Rattle.effects.specs.Faults.{OfEffects}
+use Rattle.judge.proofs.Verdicts.{few_first, types_first, effects_first, passed_accepted}
 use Rattle.judge.proofs.verdict.first_fault.Goals as goal
 
-pub returns-then-rows-lt-ROWS : goal.returns-then-rows-lt-ROWS
-returns-then-rows-lt-ROWS g c = record {
-  first = few_first _ _ _ c.if-rows-lt-ROWS.true;
-  accepted = λ e. absurd (false≢true e);
-  zero = c.clear_rows.ensures;
-}
+pub returns-then-rows-lt-ROWS-clause-first : goal.returns-then-rows-lt-ROWS-clause-first
+returns-then-rows-lt-ROWS-clause-first g c = few_first _ _ _ (omega (arith, c.if-rows-lt-ROWS.true, c.clear_rows.auto.rows))
 
-pub returns-in-Some : goal.returns-in-Some
-returns-in-Some g c = record {
-  first = types_first _ _ _ c.in-Some.fault c.if-rows-lt-ROWS.false (c.in-Some.ensures.first _);
-  accepted = λ e. absurd (false≢true e);
-  zero = c.clear_rows-in-Some.ensures;
-}
+pub returns-in_err-judge_types-clause-first : goal.returns-in_err-judge_types-clause-first
+returns-in_err-judge_types-clause-first g c =
+    let p = err_from_is_err_and c.from_residual.result c.from_residual.ensures.1 in
+    let enough : 8192 ≤ length c.args.rows.now = omega (arith, c.if-rows-lt-ROWS.false, c.clear_rows.auto.rows) in
+    rw (p.1, p.2) (types_first _ _ _ c.in_err-judge_types.field-0.0 enough (c.in_err-judge_types.ensures.first _))
 
-pub returns : goal.returns
-returns g c =
-    let s = c.args.sheet.now.sheet in
-    let K = g.C.Counting.operations (g.C.Sheets.own s) in
-    let t = g.C.Sheets.held s in
-    let rows = length c.args.rows.now in
-    let typed = c.in_default.ensures in
-    let all = effects_first K t rows (fault_of c.judge_effects.result) (typed.first rows) c.judge_effects.ensures.first in
-    record {
-      first = all;
-      accepted = λ e. unfaulted_accepted K t (g.met.C.Sheets.sound s) (g.met.C.Counting.lawful (g.C.Sheets.own s)) rows (typed.typed refl)
-          (subst (λ (o : Option Fault). FirstTold (Faulty K t rows) o) (ok_none c.judge_effects.result e) all);
-      zero = c.judge_effects.ensures.zero;
-    }
+pub returns-clause-first : goal.returns-clause-first
+returns-clause-first g c =
+    let s = c.args.sheet.now in
+    let K = g.C.Counting.operations s.counting in
+    let told = subst (λ rows. FirstTold (λ f. Faulty K s.tables rows f × OfEffects f) (fault_of c.judge_effects.result)) c.clear_rows.auto.rows c.judge_effects.ensures.first in
+    effects_first K s.tables _ (fault_of c.judge_effects.result) (c.in_ok-judge_types.ensures.first _) told
+
+pub returns-clause-accepted : goal.returns-clause-accepted
+returns-clause-accepted g c =
+    let s = c.args.sheet.now in
+    let K = g.C.Counting.operations s.counting in
+    let told = effects_first K s.tables _ (fault_of c.judge_effects.result) (c.in_ok-judge_types.ensures.first _) c.judge_effects.ensures.first in
+    passed_accepted K s.tables s.sound (g.met.C.Counting.lawful s.counting) _ c.judge_effects.result (c.in_ok-judge_types.ensures.typed refl) told

@@ -1,20 +1,7 @@
-use Rattle.std.proofs.Common.{refl}
-use Rattle.std.proofs.lemmas.Bool.{false≢true}
-use Rattle.judge.proofs.Orders.{one_first}
 use Rattle.judge.proofs.Verdicts.{accepted_unfaulted}
 use Rattle.judge.proofs.verdict.judge.Goals as goal
 
-pub returns-in-Err : goal.returns-in-Err
-returns-in-Err g c =
-    let s = c.args.sheet.now.sheet in
-    let told = c.in-Err.ensures in
-    record {
-      first = told.first;
-      one = λ o h. one_first _ o _ h told.first;
-      passing = λ e. absurd (false≢true e);
-      accepted = λ enough a. absurd (accepted_unfaulted _ _ (g.met.C.Sheets.sound s) (g.met.C.Counting.lawful (g.C.Sheets.own s)) _ enough a c.in-Err.fault told.first.0);
-      held = λ e. absurd (false≢true e);
-      own = λ e. absurd (false≢true e);
-      kept = λ e. refl;
-      zero = told.zero;
-    }
+pub returns-in_err-first_fault-clause-accepted : goal.returns-in_err-first_fault-clause-accepted
+returns-in_err-first_fault-clause-accepted g c enough a =
+    let s = c.args.sheet.now in
+    absurd (accepted_unfaulted _ _ s.sound (g.met.C.Counting.lawful s.counting) _ enough a c.in_err-first_fault.field-0.0 c.in_err-first_fault.ensures.first.0)

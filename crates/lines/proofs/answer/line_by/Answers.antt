@@ -11,17 +11,17 @@ pub returns-in-Ok : goal.returns-in-Ok
 returns-in-Ok g c =
     let C = g.C.Counting in
     let bytes = c.args.bytes.now in
-    let held = g.C.Sheets.held c.open.new.place.sheet in
-    let means = subst (λ k. Means (basis_of (C.tag k) (C.operations k)) bytes (Ok held)) c.new-place.ensures.own c.in-Ok.ensures.meaning in
+    let held = c.open.new.place.tables in
+    let means = subst (λ k. Means (basis_of (C.tag k) (C.operations k)) bytes (Ok held)) c.new-place.ensures.counting c.in-Ok.ensures.meaning in
     let count = c.len.ensures.value ∙ ap (λ (t : Tables). length (elements t.nodes)) c.tables.ensures.value in
     IfOk-weaker c.opened_line.result (λ s. string_bytes s ≡ opened c.len.result) (λ s. By (basis_of (C.tag c.args.counting) (C.operations c.args.counting)) bytes (string_bytes s))
     (λ s e. (Ok held, means, e ∙ ap opened count)) c.opened_line.ensures
 
-pub returns : goal.returns
-returns g c =
+pub returns-in-Err : goal.returns-in-Err
+returns-in-Err g c =
     let C = g.C.Counting in
     let bytes = c.args.bytes.now in
     let fault = c.in-Err.fault in
-    let means = subst (λ k. Means (basis_of (C.tag k) (C.operations k)) bytes (Err fault)) c.new-place.ensures.own c.in-Err.ensures.meaning in
+    let means = subst (λ k. Means (basis_of (C.tag k) (C.operations k)) bytes (Err fault)) c.new-place.ensures.counting c.in-Err.ensures.meaning in
     IfOk-weaker c.refused_line.result (λ s. string_bytes s ≡ refused fault) (λ s. By (basis_of (C.tag c.args.counting) (C.operations c.args.counting)) bytes (string_bytes s))
     (λ s e. (Err fault, means, e)) c.refused_line.ensures

@@ -37,11 +37,11 @@ add-requires c =
       few = subst (λ n. n.names ≤ 64) (sym i.1.counts) (few_names i.0 i.1.order);
     }
 
-pub returns-then-not-add : goal.returns-then-not-add
-returns-then-not-add c =
+pub returns-in_default-add : goal.returns-in_default-add
+returns-in_default-add c =
     let i = c.loop-left.invariant.1 in
     let some = false-eqb _ 0 c.loop-left-test.ensures in
-    let no-fit = subst (λ n. Fits c.args.basis (totals_of n) (length (elements c.loop-left.tables.types)) c.in-Some-read.next → ⊥) i.1.counts c.if-not-add.ensures in (
+    let no-fit = subst (λ n. Fits c.args.basis (totals_of n) (length (elements c.loop-left.tables.types)) c.in-Some-read.next → ⊥) i.1.counts c.in_default-add.ensures in (
       i.0,
       i.1,
       not_over c.args.basis i.0 i.1.order _ _ _ i.2 (omega arith),
@@ -54,7 +54,7 @@ loop-left-preserved c =
     let i = c.loop-left.invariant.1 in
     let e = c.in-Some-read.ensures in
     let some = false-eqb _ 0 c.loop-left-test.ensures in
-    let grown = subst (λ n. Grown c.args.basis (totals_of n) c.loop-left.tables c.add.new.tables c.in-Some-read.next) i.1.counts c.if-not-add.ensures in (
+    let grown = subst (λ n. Grown c.args.basis (totals_of n) c.loop-left.tables c.add.new.tables c.in-Some-read.next) i.1.counts c.in-Some-add.ensures in (
       omega (arith, shorter _ _ _ e, c.loop-left.invariant.0),
       (i.0, i.1, further c.args.basis i.0 i.1.order _ _ _ i.2 _ _ (omega arith) e _ grown),
     )

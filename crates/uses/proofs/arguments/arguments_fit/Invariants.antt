@@ -8,4 +8,4 @@ use Rattle.uses.proofs.arguments.arguments_fit.Given as goal
 abbrev pub invariant-loop-place : goal.invariant-loop-place
 invariant-loop-place g l =
     (i : ℕ) → i < l.place
-    → SameType (g.C.Counting.operations l.counting) (types_of l.tables (get_or (parts l.names) i 0)) (required (types_of l.tables l.channel) (parts l.names) i)
+    → SameType (g.C.Counting.operations l.sheet.counting) (types_of l.sheet.tables (get_or (parts l.names) i 0)) (required (types_of l.sheet.tables l.channel) (parts l.names) i)

@@ -5,8 +5,8 @@ use Rattle.uses.proofs.arguments.types_fit.Goals as goal
 
 pub returns-in-Send : goal.returns-in-Send
 returns-in-Send g c =
-    let K = g.C.Counting.operations c.args.counting.now in
-    let types = types_of c.args.tables.now in
+    let K = g.C.Counting.operations c.args.sheet.now.counting in
+    let types = types_of c.args.sheet.now.tables in
     let r = c.arguments_fit.result in
     ⊎_elim (λ e. subst (λ node. Decides r (TypesFit K types node)) (sym e) c.arguments_fit.ensures)
     (λ e. subst (λ node. Decides r (TypesFit K types node)) (sym e.1) c.arguments_fit.ensures)
