@@ -121,10 +121,6 @@ module _ (types : List SheetType) (levels at : ℕ) (some : levels ≡ 0 → ⊥
     formed_components h =
         form_components Γ before (type_within types (levels - 1)) (type_at types at) (subst (WellFormedInside Γ before) within_step h)
 
--- no levels left: the pure type
-pub formed_none : (Γ : Scope) (before : ℕ → ℕ) (types : List SheetType) (levels at : ℕ) → levels ≡ 0 → WellFormedInside Γ before (type_within types levels at)
-formed_none Γ before types levels at e = subst (λ d. WellFormedInside Γ before (type_within types d at)) (sym e) tt
-
 -- entries and components as they are tested: by equal marks, and with counts in an array
 pub entries_tested : (next scope : List Bool) → next ≡ scope → (b d : ℕ → ℕ) (n m : ℕ) (es fs : List Entry) (r : Bool) → ((u : ℕ) → b u ≡ push n d u) → n ≡ m → es ≡ fs
     → Decides r (AllByRecursion (λ e. WellFormedEntry (marked next) b (entry e)) es) → Decides r (AllByRecursion (λ e. WellFormedEntry (marked scope) (push m d) (entry e)) fs)

@@ -9,5 +9,3 @@ returns-then-x-len c =
     (c.binder.ensures ∙ c.args.self.now.charted.binders c.args.x l)
     c.is_none.ensures
 
-pub returns-else-x-len : goal.returns-else-x-len
-returns-else-x-len c = free_else c.args.self.now.tables.now c.args.x c.len.result c.len.ensures.value c.if-x-len.false

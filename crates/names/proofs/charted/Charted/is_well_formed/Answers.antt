@@ -2,9 +2,6 @@ use Rattle.std.proofs.Common.{replicate, arith}
 use Rattle.names.proofs.Forming.{no_counts, well_tested}
 use Rattle.names.proofs.charted.Charted.is_well_formed.Goals as goal
 
-pub is_formed-requires : goal.is_formed-requires
-is_formed-requires c = record { deep = omega arith; none = λ u l. no_counts u }
-
 pub returns : goal.returns
 returns c =
     well_tested c.args.self.now.tables.now c.args.x c.type_number.result c.scope_for.result (replicate 4 0) c.as_slice.result.now c.is_formed.result

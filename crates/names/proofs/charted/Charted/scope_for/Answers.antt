@@ -27,8 +27,3 @@ returns c =
     (c.mark.auto.marks ∙ c.scope_at-marks.ensures.size)
     (λ y l. c.mark.ensures y (omega (arith, c.scope_at-marks.ensures.size)) ∙ ap (λ zs. member y zs || marked marks y) names)
 
-pub returns-in_default : goal.returns-in_default
-returns-in_default c =
-    scope_unbound c.args.self.now.tables.now c.args.x c.free_names.result
-    (sym (c.args.self.now.charted.binders c.args.x c.requires) ∙ sym c.in_default.ensures)
-    c.free_names.ensures

@@ -10,10 +10,6 @@ use Rattle.names.specs.Marks.{marked, outer}
 use Rattle.names.proofs.Forming.{holds, fails, pushed_outer, formed, formed_entries, formed_components, formed_none, entries_tested, component_tested, component_at}
 use Rattle.names.proofs.forms.Inside.+is_formed.Goals as goal
 
-pub returns-then-levels-eq0 : goal.returns-then-levels-eq0
-returns-then-levels-eq0 t c =
-    holds (formed_none (marked c.args.self.now.scope.now) (outer c.args.self.now.counts) c.args.types.now c.args.levels c.args.at c.if-levels-eq0.true)
-
 pub returns-then-not-entries_fit : goal.returns-then-not-entries_fit
 returns-then-not-entries_fit t c =
     let types = c.args.types.now in
