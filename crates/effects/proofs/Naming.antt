@@ -7,7 +7,7 @@ use Rattle.calculus.specs.Labels as calculus
 use Rattle.meaning.specs.Faults.{names_label}
 use Rattle.meaning.specs.Labels.{label_of}
 use Rattle.calculus.specs.Effects.{◌≟◌}
-use Rattle.calculus.proofs.Joins.{if_yes, if_no}
+use Rattle.calculus.proofs.Joins.{if_no}
 use Rattle.effects.specs.Steps.{gives}
 use Rattle.effects.specs.declared.row.Row.{Row}
 
@@ -27,10 +27,6 @@ back_of (Four a b c d) = refl
 -- labels are equal where they are equal in the calculus
 pub labels_alike : (L M : Label ℕ) → names_label L ≡ names_label M → L ≡ M
 labels_alike L M e = ap (λ (xs : Items ℕ). record { items = xs }) (sym (back_of L.items) ∙ ap back e ∙ back_of M.items)
-
--- what a row gives its own label, and another
-pub gives_own : (r : Row) (L : Label ℕ) → r.label ≡ L → r.amount ≡ gives L r
-gives_own r L e = sym (if_yes (names_label r.label ≟ names_label L) r.amount (ap names_label e))
 
 pub gives_other : (r : Row) (L : Label ℕ) → (r.label ≡ L → ⊥) → 0 ≡ gives L r
 gives_other r L n = sym (if_no (names_label r.label ≟ names_label L) r.amount (λ e. n (labels_alike r.label L e)))

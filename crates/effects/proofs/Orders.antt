@@ -1,7 +1,12 @@
 -- The order of labels: item by item, and that it is the order of the calculus.
-use Rattle.std.proofs.Common.{◌≡◌, ℕ, ◌+◌, ◌<◌, ◌≤◌, true, false, cond, eqb, ltb, ◌⊎◌, List, [], ◌∷◌, length, drop, Some, None, sym, refl, ap, ◌∙◌, subst, ap₂, inl, inr, ⊎_elim, arith}
+use Rattle.std.proofs.Common.{◌≡◌, ℕ, zero, suc, ◌<◌, ◌≤◌, Bool, true, false, cond, eqb, ltb, ◌⊎◌, List, [], ◌∷◌, length, get_or, Some, Option, IfSome, sym, refl, ap, ◌∙◌, subst, ap₂, inl, inr, ⊎_elim, arith}
 use mathlib.Core.Bool.{false≢true}
-use Rattle.std.proofs.lemmas.Bool.{cases_Bool, eqb-true, eq-eqb, ne_eqb, ltb-true, lt-ltb, both_ways}
+use Rattle.std.proofs.lemmas.Bool.{cases_Bool, cases_order, eqb-true, eq-eqb, ne_eqb, ltb-true, lt-ltb, le-ltb, both_ways}
+use Rattle.std.specs.Cmp.Lexicographic.{slice_partial_cmp}
+use Rattle.std.specs.Option.{unwrap_or}
+use Rattle.std.specs.Ordering.{partial_lt, partial_ordering_then, is_some_and, is_lt, nat_cmp}
+use Rattle.std.specs.declared.cmp.Ordering.{Ordering}
+use Rattle.std.specs.declared.cmp.Ordering.TheVariants.{Less, Equal, Greater}
 use Rattle.sheet.proofs.Scanning.{is_false}
 use Rattle.calculus.specs.Labels as calculus
 use Rattle.calculus.specs.Orders.{ItemsBefore, LabelBefore}
@@ -9,7 +14,7 @@ use Rattle.calculus.proofs.Orders.{labels_ordered}
 use Rattle.fault.specs.Items.{list, nth}
 use Rattle.fault.specs.declared.items.Items.{Items}
 use Rattle.fault.specs.declared.label.Label.{Label}
-use Rattle.sheet.proofs.Nesting.{nth_drop, nth_past, parts_few}
+use Rattle.sheet.proofs.Nesting.{parts_few}
 use Rattle.meaning.specs.Faults.{names_label}
 use Rattle.meaning.proofs.Scopes.{items_of}
 use Rattle.effects.specs.Found.{before, label_before}
@@ -19,22 +24,59 @@ use Rattle.effects.proofs.Naming.{labels_alike}
 pub items_few : (xs : Items ℕ) → length (list xs) ≤ 4
 items_few xs = parts_few (record { 0 = Some xs })
 
--- the order by the items from place i on
-module _ (xs ys : List ℕ) (i : ℕ) where
-  pub before_longer : (a : ℕ) → Some a ≡ nth xs i → None ≡ nth ys i → before (drop i xs) (drop i ys) ≡ true
-  before_longer a e f = ap₂ before (nth_drop xs i a e) (nth_past ys i f)
+-- numbers that items are ordered by: each item, below 256, or 256 where there is none
+abbrev Keyed : ℕ → List ℕ → List ℕ → Type 0
+Keyed n xs ks = (i : ℕ) → i < n → (get_or ks i 0 ≡ unwrap_or (nth xs i) 256) × IfSome (nth xs i) (λ x. x < 256)
 
-  both_there : (a b : ℕ) → Some a ≡ nth xs i → Some b ≡ nth ys i → before (drop i xs) (drop i ys) ≡ cond (eqb a b) (before (drop (i + 1) xs) (drop (i + 1) ys)) (ltb a b)
-  both_there a b e f = ap₂ before (nth_drop xs i a e) (nth_drop ys i b f)
+-- the first numbers decide, or the rest where they are the same
+abbrev rest_decides : ℕ → ℕ → Option Ordering → Bool
+rest_decides k l p = is_some_and is_lt (partial_ordering_then (Some (nat_cmp k l)) p)
 
-  pub before_differ : (a b : ℕ) → Some a ≡ nth xs i → Some b ≡ nth ys i → (a ≡ b → ⊥) → before (drop i xs) (drop i ys) ≡ ltb a b
-  before_differ a b e f n = both_there a b e f ∙ ap (λ t. cond t (before (drop (i + 1) xs) (drop (i + 1) ys)) (ltb a b)) (ne_eqb a b n)
+less_decides : (k l : ℕ) (p : Option Ordering) → k < l → rest_decides k l p ≡ true
+less_decides k l p h = ap (λ b. is_some_and is_lt (partial_ordering_then (Some (cond b Less (cond (eqb k l) Equal Greater))) p)) (lt-ltb k l h)
 
-  pub before_alike : (a b : ℕ) → Some a ≡ nth xs i → Some b ≡ nth ys i → a ≡ b → before (drop i xs) (drop i ys) ≡ before (drop (i + 1) xs) (drop (i + 1) ys)
-  before_alike a b e f n = both_there a b e f ∙ ap (λ t. cond t (before (drop (i + 1) xs) (drop (i + 1) ys)) (ltb a b)) (eq-eqb a b n)
+same_decides : (k l : ℕ) (p : Option Ordering) → k ≡ l → rest_decides k l p ≡ is_some_and is_lt p
+same_decides k l p h =
+    ap₂ (λ b c. is_some_and is_lt (partial_ordering_then (Some (cond b Less (cond c Equal Greater))) p)) (le-ltb k l (omega arith)) (eq-eqb k l h)
 
-  pub before_ended : None ≡ nth xs i → before (drop i xs) (drop i ys) ≡ false
-  before_ended e = ap (λ l. before l (drop i ys)) (nth_past xs i e)
+more_decides : (k l : ℕ) (p : Option Ordering) → l < k → rest_decides k l p ≡ false
+more_decides k l p h =
+    ap₂ (λ b c. is_some_and is_lt (partial_ordering_then (Some (cond b Less (cond c Equal Greater))) p)) (le-ltb k l (omega arith)) (ne_eqb k l (λ e. omega arith))
+
+-- the order of these numbers is that of the items
+pub keys_before : (n : ℕ) (xs ys ks ls : List ℕ) → length xs ≤ n → length ks ≡ n → length ls ≡ n → Keyed n xs ks → Keyed n ys ls →
+    partial_lt (slice_partial_cmp (λ x y. Some (nat_cmp x y))) ks ls ≡ before xs ys
+keys_before zero [] ys [] [] a b c p q = refl
+keys_before zero (x ∷ xs) ys ks ls a b c p q = absurd (omega arith)
+keys_before zero [] ys (k ∷ ks) ls a b c p q = absurd (omega arith)
+keys_before zero [] ys [] (l ∷ ls) a b c p q = absurd (omega arith)
+keys_before (suc n) xs ys [] ls a b c p q = absurd (omega arith)
+keys_before (suc n) xs ys (k ∷ ks) [] a b c p q = absurd (omega arith)
+keys_before (suc n) [] [] (k ∷ ks) (l ∷ ls) a b c p q =
+    let e = (p 0 (omega arith)).0 ∙ sym (q 0 (omega arith)).0 in
+    same_decides k l _ e
+    ∙ keys_before n [] [] ks ls (omega arith) (omega arith) (omega arith) (λ i h. p (suc i) (omega arith)) (λ i h. q (suc i) (omega arith))
+keys_before (suc n) [] (y ∷ ys) (k ∷ ks) (l ∷ ls) a b c p q =
+    let e = (p 0 (omega arith)).0 in
+    let f = (q 0 (omega arith)).0 in
+    let g = (q 0 (omega arith)).1 in
+    more_decides k l _ (omega arith)
+keys_before (suc n) (x ∷ xs) [] (k ∷ ks) (l ∷ ls) a b c p q =
+    let e = (p 0 (omega arith)).0 in
+    let f = (q 0 (omega arith)).0 in
+    let g = (p 0 (omega arith)).1 in
+    less_decides k l _ (omega arith)
+keys_before (suc n) (x ∷ xs) (y ∷ ys) (k ∷ ks) (l ∷ ls) a b c p q =
+    let e = (p 0 (omega arith)).0 in
+    let f = (q 0 (omega arith)).0 in
+    ⊎_elim
+    (λ s. same_decides k l _ (omega arith)
+    ∙ keys_before n xs ys ks ls (omega arith) (omega arith) (omega arith) (λ i h. p (suc i) (omega arith)) (λ i h. q (suc i) (omega arith))
+    ∙ sym (ap (λ t. cond t (before xs ys) (ltb x y)) (eq-eqb x y s)))
+    (⊎_elim
+    (λ s. less_decides k l _ (omega arith) ∙ sym (ap₂ (λ t u. cond t (before xs ys) u) (ne_eqb x y (λ r. omega arith)) (lt-ltb x y s)))
+    (λ s. more_decides k l _ (omega arith) ∙ sym (ap₂ (λ t u. cond t (before xs ys) u) (ne_eqb x y (λ r. omega arith)) (le-ltb x y (omega arith)))))
+    (cases_order x y)
 
 -- the test finds the order of the calculus
 before_sound : (xs ys : List ℕ) → before xs ys ≡ true → ItemsBefore ◌<◌ xs ys

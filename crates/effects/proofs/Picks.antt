@@ -1,28 +1,51 @@
 -- The first fault among labels: one label more.
-use Rattle.std.proofs.Common.{◌≡◌, ℕ, ◌<◌, ◌≤◌, Bool, true, false, cond, not, eqb, List, ◌∷◌, length, Some, None, Option, sym, refl, ap, ◌∙◌, subst, inl, inr, ⊎_elim, arith}
+use Rattle.std.proofs.Common.{◌≡◌, ℕ, suc, ◌<◌, ◌≤◌, Bool, true, false, cond, not, ◌||◌, eqb, List, ◌∷◌, length, Some, None, Option, sym, refl, ap, ◌∙◌, subst, inl, inr, ⊎_elim, arith}
 use mathlib.Core.Path.{fun_ext}
 use Rattle.std.proofs.lemmas.List.{get_or_past}
-use Rattle.std.proofs.lemmas.Bool.{cases_Bool, cases_order, and_parts, and_cases, and_right, or_cases, or_parts, eqb-true, eqb-false, ltb-true, ltb-false, both_ways}
+use Rattle.std.proofs.lemmas.Bool.{cases_Bool, cases_lt, cases_order, ne_eqb, eq-eqb, not-true, not_from_false, and_parts, and_cases, and_right, or_cases, or_parts, eqb-true, eqb-false, ltb-true, ltb-false, both_ways}
 use Rattle.calculus.specs.Countings.{Operations}
 use Rattle.fault.specs.declared.label.Label.{Label}
 use Rattle.tables.specs.declared.tables.Node.{Node}
 use Rattle.tables.specs.declared.tables.Node.TheVariants.{Stop}
+use Rattle.fault.specs.Items.{list}
+use Rattle.sheet.specs.Scope.{binds}
 use Rattle.sheet.specs.Tree.{node_at}
-use Rattle.effects.specs.Found.{label_before, bad, fails, node_of, rank, sooner, pick, Highest, Later, FirstIn}
+use Rattle.effects.specs.Found.{meets, label_before, uncopyable, bad, fails, node_of, rank, sooner, pick, LastBad, Highest, Later, FirstIn}
 use Rattle.effects.specs.declared.found.Found.{Found}
-use Rattle.effects.specs.declared.found.Place.{Place}
 use Rattle.effects.proofs.Orders.{label_transitive, label_irreflexive}
 
 -- past the last node nothing is at fault
 pub good_past : (K : Operations) (all : List Node) (L : Label ℕ) (n a : ℕ) → length all ≤ n → bad K (node_at all n) L a ≡ false
 good_past K all L n a l = ap (λ x. bad K x L a) (get_or_past all n Stop l) ∙ and_right (not (eqb a 0)) false refl
 
--- one place lower
-pub good_more : (P : ℕ → Bool) (n : ℕ) → P n ≡ false → ((m : ℕ) → n < m → P m ≡ false) → (m : ℕ) → n ≤ m → P m ≡ false
-good_more P n here h m l = ⊎_elim (λ e. ap P e ∙ here) (⊎_elim (λ q. absurd (omega arith)) (λ q. h m q)) (cases_order m n)
+-- of the last node at fault, or the root where none is, the amount decides: with one, that place is told first
+module _ (K : Operations) (all : List Node) (L : Label ℕ) (A : ℕ → ℕ) where
+  last_good : (n : ℕ) → ((m : ℕ) → n ≤ m → m < length all → bad K (node_at all m) L (A m) ≡ false) → (m : ℕ) → n ≤ m → bad K (node_at all m) L (A m) ≡ false
+  last_good n h m l = ⊎_elim (λ q. h m l q) (λ q. good_past K all L m (A m) q) (cases_lt m (length all))
+
+  pub highest_some : (o : Option ℕ) (a : ℕ) → LastBad (λ n. bad K (node_at all n) L (A n)) (length all) o → a ≡ A (node_of o) → (a ≡ 0 → ⊥) →
+      Highest K all L A (Some (record { place = o; label = L; amount = a }))
+  highest_some None a h e n = (
+    not_from_false (eqb (A 0) 0) (ne_eqb (A 0) 0 (λ z. n (e ∙ z))),
+    refl,
+    e,
+    elim [ None ↦ λ l. absurd (omega arith) | Some m ↦ λ l. last_good 0 (λ k p q. h k q) m (omega arith) ],
+  )
+  highest_some (Some k) a h e n = (
+    h.1,
+    refl,
+    e,
+    elim [ None ↦ λ l. absurd (omega arith) | Some m ↦ λ l. last_good (suc k) (λ i p q. h.2 i (omega arith) q) m (omega arith) ],
+  )
+
+  pub highest_none : (o : Option ℕ) (a : ℕ) → LastBad (λ n. bad K (node_at all n) L (A n)) (length all) o → a ≡ A (node_of o) → a ≡ 0 → Highest K all L A None
+  highest_none None a h e z = elim [ None ↦ ap not (eq-eqb (A 0) 0 (sym e ∙ z)) | Some m ↦ last_good 0 (λ k p q. h k q) m (omega arith) ]
+  highest_none (Some k) a h e z =
+      let some = (and_parts (not (eqb (A k) 0)) (meets (binds (node_at all k)) (list L.items) || uncopyable K (A k) (node_at all k)) h.1).0 in
+      absurd (both_ways (eqb (A k) 0) (not-true (eqb (A k) 0) some) (eq-eqb (A k) 0 (sym e ∙ z)))
 
 -- what is not told before the old best is not told before a sooner one
-later_sooner : (b w : Found) (p : Place) (M : Label ℕ) → sooner w b ≡ true → Later b p M → Later w p M
+later_sooner : (b w : Found) (p : Option ℕ) (M : Label ℕ) → sooner w b ≡ true → Later b p M → Later w p M
 later_sooner b w p M s h =
     ⊎_elim
     (λ higher. let l = ltb-true (rank b.place) (rank w.place) higher in
@@ -41,7 +64,7 @@ later_sooner b w p M s h =
     (or_cases _ _ s)
 
 -- at its own label the highest is told first
-later_own : (w : Found) (p : Place) (M : Label ℕ) → M ≡ w.label → rank p ≤ rank w.place → Later w p M
+later_own : (w : Found) (p : Option ℕ) (M : Label ℕ) → M ≡ w.label → rank p ≤ rank w.place → Later w p M
 later_own w p M e l =
     ⊎_elim
     (λ q. inr (q, ap (λ X. label_before X w.label) e ∙ label_irreflexive w.label))
@@ -49,7 +72,7 @@ later_own w p M e l =
     (cases_order (rank p) (rank w.place))
 
 -- where the new one is not sooner, the old best stays
-later_kept : (b w : Found) (p : Place) (M : Label ℕ) → sooner w b ≡ false → M ≡ w.label → rank p ≤ rank w.place → Later b p M
+later_kept : (b w : Found) (p : Option ℕ) (M : Label ℕ) → sooner w b ≡ false → M ≡ w.label → rank p ≤ rank w.place → Later b p M
 later_kept b w p M s e l =
     let t = or_parts _ _ s in
     let le = ltb-false (rank b.place) (rank w.place) t.0 in
@@ -60,7 +83,7 @@ later_kept b w p M s e l =
 
 module _ (K : Operations) (all : List Node) (A : Label ℕ → ℕ → ℕ) (L : Label ℕ) (S : List (Label ℕ)) where
   -- a fault at the label of the highest is not above it
-  own_label : (w : Found) → Highest K all L (A L) (Some w) → (M : Label ℕ) → M ≡ L → (p : Place) → fails K all M (A M) p ≡ true → (M ≡ w.label) × (rank p ≤ rank w.place)
+  own_label : (w : Found) → Highest K all L (A L) (Some w) → (M : Label ℕ) → M ≡ L → (p : Option ℕ) → fails K all M (A M) p ≡ true → (M ≡ w.label) × (rank p ≤ rank w.place)
   own_label w h M e p t = (
     e ∙ sym h.1,
     ⊎_elim (λ q. omega arith)

@@ -1,5 +1,5 @@
 -- The amounts of an opened sheet's nodes, by the work rows.
-use Rattle.std.proofs.Common.{◌≡◌, ℕ, suc, ◌+◌, ◌*◌, ◌/◌, ◌%◌, ◌<◌, ◌≤◌, List, [], ◌∷◌, map, length, get_or, drop, sym, refl, ap, ◌∙◌, subst, ap₂, ⊎_elim, le_trans, arith}
+use Rattle.std.proofs.Common.{◌≡◌, ℕ, suc, ◌+◌, ◌*◌, ◌/◌, ◌%◌, ◌<◌, ◌≤◌, List, [], ◌∷◌, map, length, get_or, take, drop, sym, refl, ap, ◌∙◌, subst, ap₂, ⊎_elim, le_trans, arith}
 use Rattle.std.specs.List.{AllByRecursion}
 use Rattle.std.proofs.lemmas.List.{get_or_past, get_or-take, get_or-drop, length-take-le, length-drop, length-map}
 use Rattle.std.proofs.lemmas.Bool.{cases_lt}
@@ -200,20 +200,21 @@ module _ (K : Operations) (W : Laws K) (t : Tables) (sound : Sound K.largest t) 
     fits = λ n. (amounts_fit K W (types_of t) (entries_small K t sound) (process_at (elements t.nodes) n) (names_label L)).fits (small_at n);
   }
 
--- the same, where what stands in the table is known by parts
-pub opened_amounts : (K : Operations) (W : Laws K) (t : Tables) (sound : Sound K.largest t) (full : ℕ) → full ≡ K.full →
-    (kinds : List SheetType) → kinds ≡ elements t.types → (owners : List ℕ) → owners ≡ elements t.names → (all : List Node) → all ≡ elements t.nodes →
-    (table : List Row) → 8 * length all ≤ length table → Filled full kinds owners all table (8 * length all) → (L : Label ℕ) →
-    Amounts K (elements t.nodes) table L (λ n. amount_at K t n (names_label L))
-opened_amounts K W t sound full f kinds a owners b all c table room filled L =
-    let one = subst (λ (x : ℕ). Filled x kinds owners all table (8 * length all)) f filled in
-    let two = subst (λ (x : List SheetType). Filled K.full x owners all table (8 * length all)) a one in
-    let three = subst (λ (x : List ℕ). Filled K.full (elements t.types) x all table (8 * length all)) b two in
-    let four = subst (λ (x : List Node). Filled K.full (elements t.types) (elements t.names) x table (8 * length x)) c three in
-    let enough = subst (λ (x : List Node). 8 * length x ≤ length table) c room in
-    sheet_amounts K W t sound table enough four L
+-- the same, where the rows of equal tables stand first in a table
+pub opened_amounts : (K : Operations) (W : Laws K) (t : Tables) (sound : Sound K.largest t) (full : ℕ) → full ≡ K.full → (u : Tables) → u ≡ t → (table : List Row) →
+    8 * length (elements t.nodes) ≤ length table → Filled full (elements u.types) (elements u.names) (elements u.nodes) table (8 * length (elements u.nodes)) → (L : Label ℕ) →
+    Amounts K (elements t.nodes) (take (8 * length (elements t.nodes)) table) L (λ n. amount_at K t n (names_label L))
+opened_amounts K W t sound full f u e table room filled L =
+    let k = 8 * length (elements t.nodes) in
+    let one = subst (λ (x : ℕ). Filled x (elements u.types) (elements u.names) (elements u.nodes) table (8 * length (elements u.nodes))) f filled in
+    let all = subst (λ (x : Tables). Filled K.full (elements x.types) (elements x.names) (elements x.nodes) table (8 * length (elements x.nodes))) e one in
+    sheet_amounts K W t sound (take k table) (omega (arith, length-take-le k table room)) (λ i l. get_or-take k table i blank l ∙ all i l) L
 
--- the same amounts, of an equal counting and equal nodes
-pub amounts_same : (K J : Operations) (all more : List Node) (table : List Row) (L : Label ℕ) (A : ℕ → ℕ) → J ≡ K → more ≡ all → Amounts K all table L A → Amounts J more table L A
-amounts_same K J all more table L A k e a =
-    subst (λ (X : Operations). Amounts X more table L A) (sym k) (subst (λ (x : List Node). Amounts K x table L A) (sym e) a)
+-- the same amounts, of an equal counting, equal tables, and the nodes and the rows of these
+pub amounts_same : (K J : Operations) (t u : Tables) (all : List Node) (table rows : List Row) (L : Label ℕ) (A : ℕ → ℕ) → J ≡ K → u ≡ t → all ≡ elements u.nodes →
+    rows ≡ take (8 * length (elements u.nodes)) table → Amounts K (elements t.nodes) (take (8 * length (elements t.nodes)) table) L A → Amounts J all rows L A
+amounts_same K J t u all table rows L A k e n r a =
+    subst (λ (X : Operations). Amounts X all rows L A) (sym k)
+    (subst (λ (x : List Node). Amounts K x rows L A) (sym n)
+    (subst (λ (x : List Row). Amounts K (elements u.nodes) x L A) (sym r)
+    (subst (λ (x : Tables). Amounts K (elements x.nodes) (take (8 * length (elements x.nodes)) table) L A) (sym e) a)))

@@ -22,8 +22,6 @@ use Rattle.meaning.proofs.Scopes.{items_of, member_of}
 use Rattle.effects.specs.Faults.{OfEffects, node_fault, fault_at}
 use Rattle.effects.specs.Found.{meets, label_before, uncopyable, bad, fails, node_of, rank, FirstOf}
 use Rattle.effects.specs.declared.found.Found.{Found}
-use Rattle.effects.specs.declared.found.Place.{Place}
-use Rattle.effects.specs.declared.found.Place.TheVariants.{Root, At}
 use Rattle.effects.proofs.Orders.{label_after}
 
 -- members by the test
@@ -75,28 +73,28 @@ stage_at n L a (Test x y b c) = (refl, refl, refl)
 stage_at n L a (Begin l next) = (refl, refl, refl)
 stage_at n L a (End l next) = (refl, refl, refl)
 
-amiss_at : (all : List Node) (p : Place) (L : Label ℕ) (a : ℕ) → amiss_of (fault_at all p L a) ≡ Some (L, a)
-amiss_at all Root L a = refl
-amiss_at all (At n) L a = (stage_at n L a (node_at all n)).2
+amiss_at : (all : List Node) (p : Option ℕ) (L : Label ℕ) (a : ℕ) → amiss_of (fault_at all p L a) ≡ Some (L, a)
+amiss_at all None L a = refl
+amiss_at all (Some n) L a = (stage_at n L a (node_at all n)).2
 
-from_twelve : (all : List Node) (p : Place) (L : Label ℕ) (a : ℕ) → 12 ≤ stage (fault_at all p L a)
-from_twelve all Root L a = omega arith
-from_twelve all (At n) L a = let h = (stage_at n L a (node_at all n)).0 in omega arith
+from_twelve : (all : List Node) (p : Option ℕ) (L : Label ℕ) (a : ℕ) → 12 ≤ stage (fault_at all p L a)
+from_twelve all None L a = omega arith
+from_twelve all (Some n) L a = let h = (stage_at n L a (node_at all n)).0 in omega arith
 
 -- places of one rank are one
-rank_same : (p q : Place) → rank p ≡ rank q → p ≡ q
-rank_same Root Root e = refl
-rank_same Root (At n) e = absurd (omega arith)
-rank_same (At n) Root e = absurd (omega arith)
-rank_same (At n) (At m) e = let h : n ≡ m = omega arith in ap At h
+rank_same : (p q : Option ℕ) → rank p ≡ rank q → p ≡ q
+rank_same None None e = refl
+rank_same None (Some n) e = absurd (omega arith)
+rank_same (Some n) None e = absurd (omega arith)
+rank_same (Some n) (Some m) e = let h : n ≡ m = omega arith in ap Some h
 
 module _ (all : List Node) where
   -- a place of higher rank is told first
-  higher_first : (p q : Place) (L M : Label ℕ) (a b : ℕ) → rank q < rank p → Before (fault_at all p L a) (fault_at all q M b)
-  higher_first Root Root L M a b l = absurd (omega arith)
-  higher_first Root (At m) L M a b l = absurd (omega arith)
-  higher_first (At n) Root L M a b l = let h = (stage_at n L a (node_at all n)).0 in earlier_stage (omega arith)
-  higher_first (At n) (At m) L M a b l =
+  higher_first : (p q : Option ℕ) (L M : Label ℕ) (a b : ℕ) → rank q < rank p → Before (fault_at all p L a) (fault_at all q M b)
+  higher_first None None L M a b l = absurd (omega arith)
+  higher_first None (Some m) L M a b l = absurd (omega arith)
+  higher_first (Some n) None L M a b l = let h = (stage_at n L a (node_at all n)).0 in earlier_stage (omega arith)
+  higher_first (Some n) (Some m) L M a b l =
       let h = stage_at n L a (node_at all n) in
       let k = stage_at m M b (node_at all m) in
       let i = h.1 in
@@ -104,17 +102,17 @@ module _ (all : List Node) where
       higher_node h.0 k.0 (omega arith)
 
   -- at one place the lower label is
-  label_first : (p : Place) (L M : Label ℕ) (a b : ℕ) → label_before M L ≡ false → (M ≡ L) ⊎ Before (fault_at all p L a) (fault_at all p M b)
+  label_first : (p : Option ℕ) (L M : Label ℕ) (a b : ℕ) → label_before M L ≡ false → (M ≡ L) ⊎ Before (fault_at all p L a) (fault_at all p M b)
   label_first p L M a b h =
       ⊎_elim (λ e. inl e) (λ l. inr (lower_label (same_stage p) (same_place p) L M a b (amiss_at all p L a) (amiss_at all p M b) l)) (label_after M L h)
     where
-      same_stage : (q : Place) → stage (fault_at all q L a) ≡ stage (fault_at all q M b)
-      same_stage Root = refl
-      same_stage (At n) = (stage_at n L a (node_at all n)).0 ∙ sym (stage_at n M b (node_at all n)).0
+      same_stage : (q : Option ℕ) → stage (fault_at all q L a) ≡ stage (fault_at all q M b)
+      same_stage None = refl
+      same_stage (Some n) = (stage_at n L a (node_at all n)).0 ∙ sym (stage_at n M b (node_at all n)).0
 
-      same_place : (q : Place) → place_of (fault_at all q L a) ≡ place_of (fault_at all q M b)
-      same_place Root = refl
-      same_place (At n) = (stage_at n L a (node_at all n)).1 ∙ sym (stage_at n M b (node_at all n)).1
+      same_place : (q : Option ℕ) → place_of (fault_at all q L a) ≡ place_of (fault_at all q M b)
+      same_place None = refl
+      same_place (Some n) = (stage_at n L a (node_at all n)).1 ∙ sym (stage_at n M b (node_at all n)).1
 
 module _ (K : Operations) (W : Laws K) (t : Tables) (rows : ℕ) where
   abbrev nodes : List Node
@@ -125,14 +123,14 @@ module _ (K : Operations) (W : Laws K) (t : Tables) (rows : ℕ) where
 
   -- a fault that the effects can have, by place and label
   pub record Placed (f : Fault) : Type 0 where
-    pub place : Place
+    pub place : Option ℕ
     pub label : Label ℕ
     pub at_fault : fails K nodes label (A label) place ≡ true
     pub same : f ≡ fault_at nodes place label (A label (node_of place))
 
   escaped : (n z : ℕ) (L : Label ℕ) → z ∈ binds (node_at nodes n) → z ∈ calculus.items (names_label L) → (A L n ≡ 0 → ⊥) → Placed (Escapes n L (A L n))
   escaped n z L b m h = record {
-    place = At n;
+    place = Some n;
     label = L;
     at_fault = and_from (not (eqb (A L n) 0)) _ (not_none (A L n) h)
         (or_left (meets (binds (node_at nodes n)) (list L.items)) (uncopyable K (A L n) (node_at nodes n))
@@ -142,7 +140,7 @@ module _ (K : Operations) (W : Laws K) (t : Tables) (rows : ℕ) where
 
   copied : (n next : ℕ) (L : Label ℕ) → node_at nodes n ≡ Copy next → (K.join (A L n) (A L n) ≡ A L n → ⊥) → Placed (NotCopyable n L (A L n))
   copied n next L e h = record {
-    place = At n;
+    place = Some n;
     label = L;
     at_fault = and_from (not (eqb (A L n) 0)) _ (not_none (A L n) (λ z. h (ap₂ K.join z z ∙ W.neutral 0 ∙ sym z)))
         (or_right (meets (binds (node_at nodes n)) (list L.items)) (uncopyable K (A L n) (node_at nodes n))
@@ -151,7 +149,7 @@ module _ (K : Operations) (W : Laws K) (t : Tables) (rows : ℕ) where
   }
 
   owed : (L : Label ℕ) → (A L 0 ≡ 0 → ⊥) → Placed (RootOwes L (A L 0))
-  owed L h = record { place = Root; label = L; at_fault = not_none (A L 0) h; same = refl }
+  owed L h = record { place = None; label = L; at_fault = not_none (A L 0) h; same = refl }
 
   -- every fault that the effects can have is one of the rows, or has a place and a label
   placed : {f : Fault} → Faulty K t rows f → OfEffects f → ((f ≡ FewRows) × (rows < 8192)) ⊎ Placed f
@@ -187,9 +185,9 @@ module _ (K : Operations) (W : Laws K) (t : Tables) (rows : ℕ) where
   node_faulty n L (Begin l next) e h = escape n L (Begin l next) e h refl
   node_faulty n L (End l next) e h = escape n L (End l next) e h refl
 
-  faulty_at : (p : Place) (L : Label ℕ) → fails K nodes L (A L) p ≡ true → Faulty K t rows (fault_at nodes p L (A L (node_of p)))
-  faulty_at Root L h = root_owes L (some_left (A L 0) h)
-  faulty_at (At n) L h = node_faulty n L (node_at nodes n) refl h
+  faulty_at : (p : Option ℕ) (L : Label ℕ) → fails K nodes L (A L) p ≡ true → Faulty K t rows (fault_at nodes p L (A L (node_of p)))
+  faulty_at None L h = root_owes L (some_left (A L 0) h)
+  faulty_at (Some n) L h = node_faulty n L (node_at nodes n) refl h
 
   -- too few rows are told first
   pub few_told : rows < 8192 → FirstTold (λ f. Faulty K t rows f × OfEffects f) (Some FewRows)
@@ -218,8 +216,8 @@ module _ (K : Operations) (W : Laws K) (t : Tables) (rows : ℕ) where
             (λ q.
             let p = rank_same r.place f.place q.0 in
             ⊎_elim
-            (λ e. inl (r.same ∙ ap₂ (λ (x : Place) (M : Label ℕ). fault_at nodes x M (A M (node_of x))) p e ∙ exact))
-            (λ b. inr (subst (Before told) (sym (r.same ∙ ap (λ (x : Place). fault_at nodes x r.label (A r.label (node_of x))) p)) b))
+            (λ e. inl (r.same ∙ ap₂ (λ (x : Option ℕ) (M : Label ℕ). fault_at nodes x M (A M (node_of x))) p e ∙ exact))
+            (λ b. inr (subst (Before told) (sym (r.same ∙ ap (λ (x : Option ℕ). fault_at nodes x r.label (A r.label (node_of x))) p)) b))
             (label_first nodes f.place f.label r.label f.amount (A r.label (node_of f.place)) q.1))
             (h.2 r.label r.place r.at_fault))
             (placed o.0 o.1),

@@ -1,5 +1,5 @@
 -- Which faults the effects can have, and the fault that is told of what was found.
-use Rattle.std.specs.Prelude.{◌≡◌, ℕ, ◌≤◌, ◌⊎◌, List}
+use Rattle.std.specs.Prelude.{◌≡◌, ℕ, ◌≤◌, ◌⊎◌, List, Some, None, Option}
 use Rattle.fault.specs.declared.fault.Fault.{Fault}
 use Rattle.fault.specs.declared.fault.Fault.TheVariants.{Escapes, NotCopyable, RootOwes}
 use Rattle.fault.specs.declared.label.Label.{Label}
@@ -7,8 +7,6 @@ use Rattle.tables.specs.declared.tables.Node.{Node}
 use Rattle.tables.specs.declared.tables.Node.TheVariants.{Stop, Send, Receive, Both, Copy, New, Test, Begin, End}
 use Rattle.sheet.specs.Tree.{node_at}
 use Rattle.meaning.specs.Faults.{stage}
-use Rattle.effects.specs.declared.found.Place.{Place}
-use Rattle.effects.specs.declared.found.Place.TheVariants.{Root, At}
 
 -- the faults that effects can have: too few rows, and those from 12 on
 abbrev pub OfEffects : Fault → Type 0
@@ -27,6 +25,6 @@ node_fault (Begin l next) n L a = Escapes n L a
 node_fault (End l next) n L a = Escapes n L a
 
 -- the fault at a place
-abbrev pub fault_at : List Node → Place → Label ℕ → ℕ → Fault
-fault_at all Root L a = RootOwes L a
-fault_at all (At n) L a = node_fault (node_at all n) n L a
+abbrev pub fault_at : List Node → Option ℕ → Label ℕ → ℕ → Fault
+fault_at all None L a = RootOwes L a
+fault_at all (Some n) L a = node_fault (node_at all n) n L a

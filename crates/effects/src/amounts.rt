@@ -1,133 +1,104 @@
 //! The amounts of all nodes at one label.
-ghost use Rattle.std.specs.Prelude.{◌≡◌, ℕ, ◌+◌, ◌*◌, ◌<◌, ◌≤◌, length, Decides, slice_index};
-ghost use Rattle.calculus.specs.Joins.{join_over};
+ghost use Rattle.std.specs.Prelude.{◌≡◌, ℕ, ◌*◌, ◌<◌, ◌≤◌, length, slice_index};
 ghost use Rattle.sheet.specs.Tree.{node_at};
-ghost use Rattle.effects.specs.Steps.{gives, own_at, step_by, LaterChildren, Amounts};
+ghost use Rattle.effects.specs.Rows.{places};
+ghost use Rattle.effects.specs.Steps.{gives, own_at, step_by, Amounts};
 
 use crate::row::Row;
-use crate::rows::node_rows;
+use crate::work::{ROWS, Work};
 use counting::Counting;
 use fault::Label;
 use tables::tables::Node;
-
-/// Whether two labels are one.
-fn same_label(a: &Label<u8>, b: &Label<u8>) -> bool
-    ensures { Decides result (a.now ≡ b.now) }
-{
-    *a == *b
-}
 
 /// What a row gives a label.
 fn amount_for(row: &Row, label: &Label<u8>) -> u32
     ensures { result ≡ gives label.now row.now }
 {
-    if same_label(&row.label, label) {
-        row.amount
-    } else {
-        0
-    }
+    if row.label == *label { row.amount } else { 0 }
 }
 
-/// Two amounts joined, where that does not pass the ceiling.
-fn join_within<C: Counting>(counting: &C, a: u32, b: u32) -> u32
-    requires { (C.Counting.operations counting.now).join a b ≤ (C.Counting.operations counting.now).ceiling }
-    ensures { result ≡ (C.Counting.operations counting.now).join a b }
+/// The amount of a node; 0 past the last.
+pub(crate) fn amount_in(amounts: &[u32; 1024], node: usize) -> u32
+    ensures { result ≡ slice_index amounts.now node }
 {
-    match counting.join(a, b) {
-        Some(both) => both,
-        None => 0,
-    }
+    amounts.get(node).copied().unwrap_or(0)
 }
 
-/// What the rows give a label, joined.
-fn own_amount<C: Counting>(counting: &C, rows: &[Row], label: &Label<u8>) -> u32
-    requires { join_over (C.Counting.operations counting.now) rows.now (gives label.now) ≤ (C.Counting.operations counting.now).ceiling }
-    ensures { result ≡ join_over (C.Counting.operations counting.now) rows.now (gives label.now) }
+/// Two amounts joined; 0 where that passes the ceiling.
+fn joined<C: Counting>(counting: &C, a: u32, b: u32) -> u32
+    ensures { (C.Counting.operations counting.now).join a b ≤ (C.Counting.operations counting.now).ceiling → result ≡ (C.Counting.operations counting.now).join a b }
 {
-    let mut sum = 0;
-    for j in (0..rows.len()).rev() {
-        sum = join_within(counting, amount_for(&rows[j], label), sum);
-    }
-    sum
+    counting.join(a, b).unwrap_or(0)
 }
 
-/// The amount of node `n` at a label, from its rows and the amounts of its children.
-fn node_amount<C: Counting>(
-    counting: &C,
-    nodes: &[Node],
-    rows: &[Row],
-    n: usize,
-    label: &Label<u8>,
-    amounts: &[u32],
-) -> u32
-    requires sizes { (n < length nodes.now) × (8 * n + 8 ≤ length rows.now) }
-    requires later { LaterChildren n (length amounts.now) (node_at nodes.now n) }
-    requires own { own_at (C.Counting.operations counting.now) rows.now label.now n ≤ (C.Counting.operations counting.now).ceiling }
-    requires fits { step_by (C.Counting.operations counting.now) (own_at (C.Counting.operations counting.now) rows.now label.now n) (λ c. slice_index amounts.now c) (node_at nodes.now n) ≤ (C.Counting.operations counting.now).ceiling }
-    ensures { result ≡ step_by (C.Counting.operations counting.now) (own_at (C.Counting.operations counting.now) rows.now label.now n) (λ c. slice_index amounts.now c) (node_at nodes.now n) }
-{
-    match nodes[n] {
-        Node::Stop => 0,
-        Node::Send { .. } => own_amount(counting, node_rows(rows, n), label),
-        Node::Receive { next, .. } | Node::Begin { next, .. } => {
-            let own = own_amount(counting, node_rows(rows, n), label);
-            counting.lack(amounts[next as usize], own)
+impl<'a, C: Counting> Work<'a, C> {
+    /// The rows of a node.
+    pub(crate) fn node_rows(&self, n: usize) -> &[Row]
+        requires { n < length self.now.nodes.now }
+        ensures { result.now ≡ places self.now.rows.now n }
+    {
+        &self.rows[ROWS * n..ROWS * n + ROWS]
+    }
+
+    /// What the rows of a node give a label, joined.
+    fn own_amount(&self, n: usize, label: &Label<u8>) -> u32
+        requires { n < length self.now.nodes.now }
+        ensures { own_at (C.Counting.operations self.now.counting.now) self.now.rows.now label.now n ≤ (C.Counting.operations self.now.counting.now).ceiling → result ≡ own_at (C.Counting.operations self.now.counting.now) self.now.rows.now label.now n }
+    {
+        let mut sum = 0;
+        let rows = self.node_rows(n);
+        for row in rows {
+            sum = joined(self.counting, sum, amount_for(row, label));
         }
-        Node::End { next, .. } => {
-            let own = own_amount(counting, node_rows(rows, n), label);
-            join_within(counting, amounts[next as usize], own)
+        sum
+    }
+
+    /// The amount of node `n` at a label, from its rows and the amounts of its children.
+    fn node_amount(&self, n: usize, label: &Label<u8>, amounts: &[u32; 1024]) -> u32
+        requires { n < length self.now.nodes.now }
+        ensures { own_at (C.Counting.operations self.now.counting.now) self.now.rows.now label.now n ≤ (C.Counting.operations self.now.counting.now).ceiling → step_by (C.Counting.operations self.now.counting.now) (own_at (C.Counting.operations self.now.counting.now) self.now.rows.now label.now n) (λ c. slice_index amounts.now c) (node_at self.now.nodes.now n) ≤ (C.Counting.operations self.now.counting.now).ceiling → result ≡ step_by (C.Counting.operations self.now.counting.now) (own_at (C.Counting.operations self.now.counting.now) self.now.rows.now label.now n) (λ c. slice_index amounts.now c) (node_at self.now.nodes.now n) }
+    {
+        match self.nodes[n] {
+            Node::Stop => 0,
+            Node::Send { .. } => self.own_amount(n, label),
+            Node::Receive { next, .. } | Node::Begin { next, .. } => {
+                let own = self.own_amount(n, label);
+                self.counting.lack(amount_in(amounts, next as usize), own)
+            }
+            Node::End { next, .. } => {
+                let own = self.own_amount(n, label);
+                joined(self.counting, amount_in(amounts, next as usize), own)
+            }
+            Node::Both { first, second } => {
+                joined(
+                    self.counting,
+                    amount_in(amounts, first as usize),
+                    amount_in(amounts, second as usize),
+                )
+            }
+            Node::Copy { next } | Node::New { next, .. } => amount_in(amounts, next as usize),
+            Node::Test { same, other, .. } => {
+                amount_in(amounts, same as usize).max(amount_in(amounts, other as usize))
+            }
         }
-        Node::Both { first, second } => {
-            join_within(counting, amounts[first as usize], amounts[second as usize])
+    }
+
+    /// The amounts of all nodes at a label, and 0 past the last: from the last node down, since each amount comes from
+    /// those of the nodes after it.
+    pub(crate) fn amounts_at(&self, label: &Label<u8>) -> [u32; 1024]
+        ensures { (A : ℕ → ℕ) → Amounts (C.Counting.operations self.now.counting.now) self.now.nodes.now self.now.rows.now label.now A → (n : ℕ) → slice_index result n ≡ A n }
+    {
+        let mut amounts = [0; 1024];
+        for n in (0..self.nodes.len()).rev() {
+            amounts[n] = self.node_amount(n, label, &amounts);
         }
-        Node::Copy { next } | Node::New { next, .. } => amounts[next as usize],
-        Node::Test { same, other, .. } => amounts[same as usize].max(amounts[other as usize]),
+        amounts
     }
-}
 
-/// Writes the amounts of all nodes at a label, from the last node down.
-pub fn amounts_at<C: Counting>(
-    counting: &C,
-    nodes: &[Node],
-    rows: &[Row],
-    label: &Label<u8>,
-    amounts: &mut [u32],
-)
-    requires sizes { (8 * length nodes.now ≤ length rows.now) × (length amounts.old ≡ length nodes.now) }
-    requires meant { (A : ℕ → ℕ) × Amounts (C.Counting.operations counting.now) nodes.now rows.now label.now A }
-    ensures { (A : ℕ → ℕ) → Amounts (C.Counting.operations counting.now) nodes.now rows.now label.now A → (n : ℕ) → slice_index amounts.new n ≡ A n }
-{
-    for n in (0..nodes.len()).rev() {
-        let amount = node_amount(counting, nodes, rows, n, label, amounts);
-        amounts[n] = amount;
+    /// The amount of a node at a label; past the last node it is 0.
+    pub(crate) fn amount_at(&self, node: usize, label: &Label<u8>) -> u32
+        ensures { (A : ℕ → ℕ) → Amounts (C.Counting.operations self.now.counting.now) self.now.nodes.now self.now.rows.now label.now A → result ≡ A node }
+    {
+        amount_in(&self.amounts_at(label), node)
     }
-}
-
-/// The amount at a place; 0 past the end.
-fn amount_in(amounts: &[u32], place: usize) -> u32
-    ensures { result ≡ slice_index amounts.now place }
-{
-    if place < amounts.len() {
-        amounts[place]
-    } else {
-        0
-    }
-}
-
-/// The amount of a node at a label; past the last node it is 0.
-pub fn amount_at<C: Counting>(
-    counting: &C,
-    nodes: &[Node],
-    rows: &[Row],
-    node: usize,
-    label: &Label<u8>,
-) -> u32
-    requires sizes { (8 * length nodes.now ≤ length rows.now) × (length nodes.now ≤ 1024) }
-    requires meant { (A : ℕ → ℕ) × Amounts (C.Counting.operations counting.now) nodes.now rows.now label.now A }
-    ensures { (A : ℕ → ℕ) → Amounts (C.Counting.operations counting.now) nodes.now rows.now label.now A → result ≡ A node }
-{
-    let mut amounts = [0u32; 1024];
-    let part = &mut amounts[0..nodes.len()];
-    amounts_at(counting, nodes, rows, label, part);
-    amount_in(part, node)
 }

@@ -5,19 +5,10 @@ ghost use Rattle.effects.specs.Found.{sooner, pick};
 use crate::labels::is_before;
 use fault::Label;
 
-/// Where an amount is at fault.
-#[derive(Clone, Copy)]
-pub enum Place {
-    /// The whole process needs something.
-    Root,
-    /// The amount of this node is at fault there.
-    At(usize),
-}
-
-/// A label that is at fault at a place, with its amount there.
+/// A label that is at fault at a node, or at none where the whole process needs something, with its amount there.
 #[derive(Clone, Copy)]
 pub struct Found {
-    pub place: Place,
+    pub place: Option<usize>,
     pub label: Label<u8>,
     pub amount: u32,
 }
@@ -26,12 +17,7 @@ pub struct Found {
 fn comes_sooner(one: &Found, other: &Found) -> bool
     ensures { result ≡ sooner one.now other.now }
 {
-    match (one.place, other.place) {
-        (Place::At(m), Place::At(n)) => { n < m || n == m && is_before(&one.label, &other.label) }
-        (Place::At(_), Place::Root) => true,
-        (Place::Root, Place::At(_)) => false,
-        (Place::Root, Place::Root) => is_before(&one.label, &other.label),
-    }
+    other.place < one.place || other.place == one.place && is_before(&one.label, &other.label)
 }
 
 /// The one that is told first, of the best so far and another.

@@ -1,7 +1,7 @@
 //! The effects of a sheet's nodes: how much of each label's right a node needs, and the first fault of these amounts.
 #![tactic(auto)]
 
-ghost use Rattle.std.specs.Prelude.{◌≡◌, ℕ, ◌<◌, ◌≤◌, length, replicate, MatchResult};
+ghost use Rattle.std.specs.Prelude.{◌≡◌, ℕ, ◌*◌, ◌<◌, ◌≤◌, length, replicate, take, MatchResult};
 ghost use Rattle.fault.specs.declared.fault.Fault.TheVariants.{FewRows};
 ghost use Rattle.fault.specs.declared.label.Label.{Label as L};
 ghost use Rattle.meaning.specs.Amounts.{amount_at};
@@ -12,9 +12,9 @@ ghost use Rattle.tables.specs.Elements.{elements};
 ghost use Rattle.effects.specs.Rows.{blank};
 ghost use Rattle.effects.specs.Steps.{Amounts};
 
-use crate::amounts::amount_at;
-use crate::faults::{first_fault, told};
+use crate::faults::told;
 use crate::rows::fill_rows;
+use crate::work::Work;
 use counting::Counting;
 use fault::{Fault, Label};
 use sheet::OpenedSheet;
@@ -23,8 +23,9 @@ mod amounts;
 mod faults;
 mod found;
 mod labels;
-pub mod row;
-pub mod rows;
+mod row;
+mod rows;
+mod work;
 
 pub use row::Row;
 pub use rows::clear_rows;
@@ -42,14 +43,13 @@ pub fn judge_effects<C: Counting>(sheet: &OpenedSheet<C>, rows: &mut [Row]) -> R
         return Err(Fault::FewRows);
     }
     let tables = sheet.tables();
-    let nodes = tables.nodes.as_slice();
     prepare(sheet, rows);
-    let first = first_fault(&sheet.counting(), nodes, rows);
+    let first = Work::new(&sheet.counting(), tables, rows).first_fault();
     clear_rows(rows);
-    let Some(found) = first else {
-        return Ok(());
-    };
-    Err(told(nodes, &found))
+    match first {
+        Some(found) => Err(told(tables.nodes.as_slice(), &found)),
+        None => Ok(()),
+    }
 }
 
 /// The least amount that a node needs of a label; past the last node it is 0. Too few rows are 7. All rows are zero then.
@@ -68,28 +68,15 @@ pub fn amount_of<C: Counting>(
     }
     let tables = sheet.tables();
     prepare(sheet, rows);
-    let amount = amount_at(
-        &sheet.counting(),
-        tables.nodes.as_slice(),
-        rows,
-        node,
-        &label,
-    );
+    let amount = Work::new(&sheet.counting(), tables, rows).amount_at(node, &label);
     clear_rows(rows);
     Ok(amount)
 }
 
-/// Writes the rows of a sheet's nodes, by its tables: the amounts of the nodes come from them.
+/// Writes the rows of a sheet's nodes: the amounts of the nodes come from them.
 fn prepare<C: Counting>(sheet: &OpenedSheet<C>, rows: &mut [Row])
     requires { 8192 ≤ length rows.old }
-    ensures { (l : L ℕ) → Amounts (C.Counting.operations sheet.now.counting) (elements sheet.now.tables.nodes) rows.new l (λ n. amount_at (C.Counting.operations sheet.now.counting) sheet.now.tables n (names_label l)) }
+    ensures { (l : L ℕ) → Amounts (C.Counting.operations sheet.now.counting) (elements sheet.now.tables.nodes) (take (8 * length (elements sheet.now.tables.nodes)) rows.new) l (λ n. amount_at (C.Counting.operations sheet.now.counting) sheet.now.tables n (names_label l)) }
 {
-    let tables = sheet.tables();
-    fill_rows(
-        sheet.counting().full_right(),
-        tables.types.as_slice(),
-        tables.names.as_slice(),
-        tables.nodes.as_slice(),
-        rows,
-    );
+    fill_rows(sheet.counting().full_right(), sheet.tables(), rows);
 }

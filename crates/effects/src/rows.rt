@@ -1,19 +1,18 @@
 //! The work rows: eight a node.
-ghost use Rattle.std.specs.Prelude.{◌≡◌, ◌+◌, ◌*◌, ◌<◌, ◌≤◌, [], ◌∷◌, map, length, replicate, slice_index_or};
+ghost use Rattle.std.specs.Prelude.{◌≡◌, ℕ, ◌*◌, ◌<◌, ◌≤◌, map, length, replicate, slice_index_or};
 ghost use Rattle.calculus.specs.Effects.{named as name_of};
-ghost use Rattle.tables.specs.Channels.{entries};
+ghost use Rattle.tables.specs.Elements.{elements};
 ghost use Rattle.tables.specs.Encoding.{parts};
-ghost use Rattle.sheet.specs.Types.{type_at};
 ghost use Rattle.meaning.specs.Types.{item as item_of};
-ghost use Rattle.effects.specs.Rows.{blank, map_items, entry_row, carried, rows_of, Filled, places};
+ghost use Rattle.effects.specs.Rows.{blank, map_items, entry_row, carried, rows_of, Filled};
 
 use crate::row::Row;
+use crate::work::ROWS;
 use fault::{Items, Label};
-use tables::tables::{Entry, Item, Node, SheetType};
+use sheet::types::entries_of;
+use std::array;
+use tables::tables::{Entry, Item, Node, Tables};
 use tables::tuple::Tuple;
-
-/// How many rows a node has.
-const ROWS: usize = 8;
 
 /// A row of nothing.
 fn blank_row() -> Row
@@ -31,9 +30,7 @@ fn blank_row() -> Row
 pub fn clear_rows(rows: &mut [Row])
     ensures { rows.new ≡ replicate (length rows.old) blank }
 {
-    for i in 0..rows.len() {
-        rows[i] = blank_row();
-    }
+    rows.fill(blank_row());
 }
 
 /// The name that an item stands for, once the names are put in; 0 past the last name.
@@ -52,21 +49,7 @@ fn put_in(names: &Tuple<u8>, item: Item) -> u8
 fn row_of_entry(names: &Tuple<u8>, entry: &Entry) -> Row
     ensures { result ≡ entry_row (parts names.now) entry.now }
 {
-    let items = match entry.label.items {
-        Items::One(a) => Items::One(put_in(names, a)),
-        Items::Two(a, b) => Items::Two(put_in(names, a), put_in(names, b)),
-        Items::Three(a, b, c) => {
-            Items::Three(put_in(names, a), put_in(names, b), put_in(names, c))
-        }
-        Items::Four(a, b, c, d) => {
-            Items::Four(
-                put_in(names, a),
-                put_in(names, b),
-                put_in(names, c),
-                put_in(names, d),
-            )
-        }
-    };
+    let items = entry.label.items.map(|item| put_in(names, item));
     Row {
         label: Label { items },
         amount: entry.amount,
@@ -74,83 +57,68 @@ fn row_of_entry(names: &Tuple<u8>, entry: &Entry) -> Row
 }
 
 /// The number of a name's type; past the last name it is one past the last type.
-fn type_of(types: &[SheetType], owners: &[u8], name: u8) -> usize
-    ensures { result ≡ slice_index_or owners.now name (length types.now) }
+fn type_of(tables: &Tables, name: u8) -> usize
+    ensures { result ≡ slice_index_or (elements tables.now.names) name (length (elements tables.now.types)) }
 {
-    let place = name as usize;
-    if place < owners.len() {
-        owners[place] as usize
-    } else {
-        types.len()
+    match tables.names.as_slice().get(name as usize) {
+        Some(number) => *number as usize,
+        None => tables.types.len(),
     }
 }
 
-/// The entries of type `at`; none where there is no such type.
-fn entries_of(types: &[SheetType], at: usize) -> &[Entry]
-    ensures { result.now ≡ entries (type_at types.now at) }
+/// The entries of what a message on a channel carries.
+fn carried(tables: &Tables, channel: u8) -> &[Entry]
+    ensures { result.now ≡ carried (elements tables.now.types) (elements tables.now.names) channel }
 {
-    match types.get(at) {
-        Some(found) => found.entries(),
-        None => &[],
+    entries_of(tables.types.as_slice(), type_of(tables, channel))
+}
+
+/// The eight rows of a node: those of what its message carries, or one full right, and then rows of nothing.
+fn node_rows(full: u32, tables: &Tables, node: &Node) -> [Row; 8]
+    ensures size { length result ≡ 8 }
+    ensures rows { (j : ℕ) → j < 8 → slice_index_or result j blank ≡ slice_index_or (rows_of full (elements tables.now.types) (elements tables.now.names) node.now) j blank }
+{
+    match *node {
+        Node::Send { channel, names } | Node::Receive { channel, names, .. } => {
+            entry_rows(carried(tables, channel), &names)
+        }
+        Node::Begin { label, .. } | Node::End { label, .. } => {
+            let mut rows = [blank_row(); 8];
+            rows[0] = Row {
+                label,
+                amount: full,
+            };
+            rows
+        }
+        _ => [blank_row(); 8],
     }
+}
+
+/// The rows of what a message with these names carries, and then rows of nothing.
+fn entry_rows(all: &[Entry], names: &Tuple<u8>) -> [Row; 8]
+    ensures size { length result ≡ 8 }
+    ensures rows { (j : ℕ) → j < 8 → slice_index_or result j blank ≡ slice_index_or (map (entry_row (parts names.now)) all.now) j blank }
+{
+    array::from_fn(|j| entry_at(all, names, j))
 }
 
 /// Row `j` of what a message with these names carries.
 fn entry_at(all: &[Entry], names: &Tuple<u8>, j: usize) -> Row
     ensures { result ≡ slice_index_or (map (entry_row (parts names.now)) all.now) j blank }
 {
-    if j < all.len() {
-        row_of_entry(names, &all[j])
-    } else {
-        blank_row()
-    }
-}
-
-/// Row `j` of a full right.
-fn right_at(label: Label<u8>, full: u32, j: usize) -> Row
-    ensures { result ≡ slice_index_or (record { label = label; amount = full } ∷ []) j blank }
-{
-    if j == 0 {
-        Row {
-            label,
-            amount: full,
-        }
-    } else {
-        blank_row()
-    }
-}
-
-/// Row `j` of a node.
-fn node_row(full: u32, types: &[SheetType], owners: &[u8], node: &Node, j: usize) -> Row
-    ensures { result ≡ slice_index_or (rows_of full types.now owners.now node.now) j blank }
-{
-    match *node {
-        Node::Send { channel, names } | Node::Receive { channel, names, .. } => {
-            entry_at(
-                entries_of(types, type_of(types, owners, channel)),
-                &names,
-                j,
-            )
-        }
-        Node::Begin { label, .. } | Node::End { label, .. } => right_at(label, full, j),
-        _ => blank_row(),
+    match all.get(j) {
+        Some(entry) => row_of_entry(names, entry),
+        None => blank_row(),
     }
 }
 
 /// Writes the rows of all nodes.
-pub fn fill_rows(full: u32, types: &[SheetType], owners: &[u8], nodes: &[Node], rows: &mut [Row])
-    requires { 8 * length nodes.now ≤ length rows.old }
-    ensures { Filled full types.now owners.now nodes.now rows.new (8 * length nodes.now) }
+pub(crate) fn fill_rows(full: u32, tables: &Tables, rows: &mut [Row])
+    requires { 8 * length (elements tables.now.nodes) ≤ length rows.old }
+    ensures { Filled full (elements tables.now.types) (elements tables.now.names) (elements tables.now.nodes) rows.new (8 * length (elements tables.now.nodes)) }
 {
-    for i in 0..ROWS * nodes.len() {
-        rows[i] = node_row(full, types, owners, &nodes[i / ROWS], i % ROWS);
+    let nodes = tables.nodes.as_slice();
+    for (n, node) in nodes.iter().enumerate() {
+        rows[ROWS * n..ROWS * n + ROWS].copy_from_slice(&node_rows(full, tables, node));
     }
-}
-
-/// The rows of a node.
-pub fn node_rows(rows: &[Row], node: usize) -> &[Row]
-    requires { 8 * node + 8 ≤ length rows.now }
-    ensures { result.now ≡ places rows.now node }
-{
-    &rows[ROWS * node..ROWS * node + ROWS]
 }

@@ -64,10 +64,6 @@ module _ (t : Tables) (chart : Chart) (charted : Charts (elements t.nodes) chart
 pub whole : (xs zs : List ℕ) (n : ℕ) → n ≡ length xs → xs ≡ zs → take n xs ≡ zs
 whole xs zs n e same = take_all n xs (omega arith) ∙ same
 
--- the scope of a name's type: for a free name, and for a bound one
-pub scope_unbound : (t : Tables) (x : ℕ) (marks : List Bool) → binder_of (elements t.nodes) x ≡ None → Marks marks (free t) → Marks marks (scope_for t x)
-scope_unbound t x marks e m = subst (λ o. Marks marks (scope_beside t x o)) (sym e) m
-
 pub scope_bound : (t : Tables) (x b : ℕ) (marks next : List Bool) → binder_of (elements t.nodes) x ≡ Some b → Marks marks (scope_at t b) → length next ≡ 64
     → ((y : ℕ) → y < 64 → marked next y ≡ (member y (earlier x (binds (node_at (elements t.nodes) b))) || marked marks y)) → Marks next (scope_for t x)
 scope_bound t x b marks next e m size each =

@@ -1,80 +1,29 @@
 -- Well-formed types, item by item, entry by entry and component by component.
-use Rattle.std.proofs.Common.{◌≡◌, ℕ, zero, suc, ◌+◌, ◌-◌, ◌<◌, ◌≤◌, Bool, true, false, ◌&&◌, ltb, List, [], ◌∷◌, map, length, get_or, drop, replicate, Some, None, Decides, sym, refl, ap, ◌∙◌, subst, ⊎_elim, arith}
+use Rattle.std.proofs.Common.{◌≡◌, ℕ, zero, suc, ◌-◌, ◌<◌, Bool, true, false, ◌&&◌, ltb, List, [], ◌∷◌, map, length, get_or, replicate, Some, Decides, sym, refl, ap, ◌∙◌, subst, ⊎_elim, arith}
 use Rattle.std.specs.List.{AllByRecursion}
-use Rattle.std.proofs.ByRecursion.{All-drop, All-map, All-weaker}
-use Rattle.std.proofs.lemmas.List.{get_or_past, get_or-replicate, drop_more, drop_all}
-use Rattle.std.proofs.lemmas.Bool.{false≢true, cases_lt, lt-ltb, le-ltb}
-use Rattle.std.proofs.lemmas.Bool.Decides.{Decides-at, Decides-like, Decides-ltb}
-use Rattle.fault.specs.Items.{list, nth}
-use Rattle.fault.specs.declared.items.Items.{Items}
-use Rattle.fault.specs.declared.items.Items.TheVariants.{One, Two, Three, Four}
+use Rattle.std.proofs.ByRecursion.{All-map, All-weaker}
+use Rattle.std.proofs.lemmas.List.{get_or_past, get_or-replicate}
+use Rattle.std.proofs.lemmas.Bool.{false≢true, cases_lt, le-ltb}
+use Rattle.std.proofs.lemmas.Bool.Decides.{Decides-like}
+use Rattle.fault.specs.Items.{nth}
 use Rattle.calculus.specs.Labels.{items}
 use Rattle.calculus.specs.Scopes.{Scope, in_scope, push, WellFormedItem, WellFormedEntry, WellFormedInside, WellFormed, outermost}
 use Rattle.calculus.specs.Types as calculus
 use Rattle.tables.specs.Channels.{components, entries}
 use Rattle.tables.specs.Elements.{elements}
-use Rattle.tables.specs.declared.tables.Item.{Item}
-use Rattle.tables.specs.declared.tables.Item.TheVariants.{Name, Index}
 use Rattle.tables.specs.declared.tables.Entry.{Entry}
 use Rattle.tables.specs.declared.tables.SheetType.{SheetType}
 use Rattle.tables.specs.declared.tables.SheetType.TheVariants.{Pure, Public, Channel}
 use Rattle.tables.specs.declared.tables.Tables.{Tables}
 use Rattle.sheet.specs.Types.{type_at}
-use Rattle.sheet.proofs.Nesting.{nth_drop, nth_past, parts_few}
-use Rattle.meaning.specs.Labels.{label_of}
+use Rattle.sheet.proofs.Nesting.{parts_few}
 use Rattle.meaning.specs.Scopes.{scope_for}
-use Rattle.meaning.specs.Types.{item, entry, form, type_within, types_of}
+use Rattle.meaning.specs.Types.{entry, form, type_within, types_of}
 use Rattle.names.specs.Marks.{marked, Marks, outer, Counts}
-
--- a name past the marks is not in scope
-in_marked : (scope : List Bool) (x : ℕ) → length scope ≡ 64 → in_scope (marked scope) x ≡ marked scope x
-in_marked scope x size =
-    ⊎_elim
-    (λ l. ap (λ b. b && marked scope x) (lt-ltb x 64 l))
-    (λ l. ap (λ b. b && marked scope x) (le-ltb x 64 l) ∙ sym (get_or_past scope x false (omega arith)))
-    (cases_lt x 64)
-
--- an item that is a name may stand in a type where the name is marked, and an index where its place is below the count
-pub name_fits : (scope : List Bool) (before : ℕ → ℕ) (it : Item) (x : ℕ) (r : Bool) → it ≡ Name x → length scope ≡ 64 → r ≡ marked scope x → Decides r (WellFormedItem (marked scope) before (item it))
-name_fits scope before it x r e size v =
-    subst (λ i. Decides r (WellFormedItem (marked scope) before (item i))) (sym e)
-    (λ h. in_marked scope x size ∙ sym v ∙ h, λ h. v ∙ sym (in_marked scope x size) ∙ h)
-
-pub index_fits : (Γ : Scope) (before : ℕ → ℕ) (it : Item) (u p s n : ℕ) → it ≡ Index u p → s ≡ p - 1 → n ≡ before u → Decides (ltb s n) (WellFormedItem Γ before (item it))
-index_fits Γ before it u p s n e es en =
-    subst (λ i. Decides (ltb s n) (WellFormedItem Γ before (item i))) (sym e)
-    (Decides-at (ltb s n) (ltb (p - 1) (before u)) (ap (λ k. ltb k n) es ∙ ap (ltb (p - 1)) en) (Decides-ltb (p - 1) (before u)))
-
--- what holds from a place on, one place further; of a member; and at the end
-module _ {X : Type 0} (P : X → Type 0) (xs : List X) (i : ℕ) where
-  pub all_on : (x : X) → Some x ≡ nth xs i → P x → (AllByRecursion P (drop i xs) → AllByRecursion P xs) → AllByRecursion P (drop (i + 1) xs) → AllByRecursion P xs
-  all_on x e h before rest = before (subst (AllByRecursion P) (sym (nth_drop xs i x e)) (h, rest))
-
-  pub all_nth : (x : X) → Some x ≡ nth xs i → AllByRecursion P xs → P x
-  all_nth x e h = (subst (AllByRecursion P) (nth_drop xs i x e) (All-drop P i xs h)).0
-
-  pub all_end : None ≡ nth xs i → (AllByRecursion P (drop i xs) → AllByRecursion P xs) → AllByRecursion P xs
-  all_end e before = before (subst (AllByRecursion P) (sym (nth_past xs i e)) tt)
 
 all_unmap : {X Y : Type 0} (P : X → Type 0) (f : Y → X) (ys : List Y) → AllByRecursion P (map f ys) → AllByRecursion (λ y. P (f y)) ys
 all_unmap P f [] h = tt
 all_unmap P f (y ∷ ys) h = (h.0, all_unmap P f ys h.1)
-
-label_items : {A B : Type 0} (f : A → B) (xs : Items A) → items (label_of f xs) ≡ map f (list xs)
-label_items f (One a) = refl
-label_items f (Two a b) = refl
-label_items f (Three a b c) = refl
-label_items f (Four a b c d) = refl
-
--- an entry by the items of its label
-pub entry_by_items : (Γ : Scope) (before : ℕ → ℕ) (e : Entry) (r : Bool) → Decides r (AllByRecursion (λ i. WellFormedItem Γ before (item i)) (list e.label.items)) → Decides r (WellFormedEntry Γ before (entry e))
-entry_by_items Γ before e r d =
-    let P = WellFormedItem Γ before in
-    let xs = list e.label.items in
-    Decides-like r
-    (λ h. subst (AllByRecursion P) (sym (label_items item e.label.items)) (All-map P item xs h))
-    (λ h. all_unmap P item xs (subst (AllByRecursion P) (label_items item e.label.items) h))
-    d
 
 -- a type of the tables, by its entries and its components
 abbrev pub PartsFit : Scope → (ℕ → ℕ) → (ℕ → calculus.NameType) → (ℕ → List ℕ → Type 0)
@@ -130,29 +79,10 @@ holds p = (λ _. p, λ _. refl)
 pub fails : {P : Type 0} → (P → ⊥) → Decides false P
 fails away = (λ e. absurd (false≢true e), λ p. absurd (away p))
 
-pub items_few : {T : Type 0} (xs : Items T) → length (list xs) ≤ 4
-items_few (One a) = omega arith
-items_few (Two a b) = omega arith
-items_few (Three a b c) = omega arith
-items_few (Four a b c d) = omega arith
-
--- the same over a slice that is gone through
-module _ {X : Type 0} (P : X → Type 0) (xs : List X) (i : ℕ) where
-  pub all_further : (d : X) → i < length xs → P (get_or xs i d) → (AllByRecursion P (drop i xs) → AllByRecursion P xs) → AllByRecursion P (drop (i + 1) xs) → AllByRecursion P xs
-  all_further d l h before rest = before (subst (AllByRecursion P) (sym (drop_more xs i d l)) (h, rest))
-
-  pub all_over : length xs ≤ i → (AllByRecursion P (drop i xs) → AllByRecursion P xs) → AllByRecursion P xs
-  all_over l before = before (subst (AllByRecursion P) (sym (drop_all i xs l)) tt)
-
 nth_get_or : (xs : List ℕ) (i x : ℕ) → Some x ≡ nth xs i → get_or xs i 0 ≡ x
 nth_get_or [] i x e = let z : ◌≡◌ {A = ℕ} 0 1 = cc in absurd (omega arith)
 nth_get_or (y ∷ ys) zero x e = cc
 nth_get_or (y ∷ ys) (suc i) x e = nth_get_or ys i x e
-
-pub nth_none : (xs : List ℕ) (i : ℕ) → None ≡ nth xs i → length xs ≤ i
-nth_none [] i e = omega arith
-nth_none (y ∷ ys) zero e = let z : ◌≡◌ {A = ℕ} 0 1 = cc in absurd (omega arith)
-nth_none (y ∷ ys) (suc i) e = let h = nth_none ys i e in omega arith
 
 -- counts one level further in
 module _ (levels n : ℕ) (counts inner : List ℕ) (some : levels ≡ 0 → ⊥) (given : Counts levels counts) (size : length inner ≡ 4)
@@ -164,13 +94,6 @@ module _ (levels n : ℕ) (counts inner : List ℕ) (some : levels ≡ 0 → ⊥
       (λ l. each (suc u) l)
       (λ l. get_or_past inner (suc u) 0 (omega arith) ∙ sym (given.none u (omega (arith, some))))
       (cases_lt (suc u) 4)
-
-  shut : (u : ℕ) → 4 ≤ u + (levels - 1) → outer inner u ≡ 0
-  shut zero l = absurd (omega (arith, given.deep, some))
-  shut (suc u) l = pushed_outer (suc u) ∙ given.none u (omega (arith, some))
-
-  pub counts_in : Counts (levels - 1) inner
-  counts_in = record { deep = omega (arith, given.deep); none = shut }
 
 module _ (types : List SheetType) (levels at : ℕ) (some : levels ≡ 0 → ⊥) where
   -- a type with levels left, by those one level further in
@@ -198,25 +121,24 @@ module _ (types : List SheetType) (levels at : ℕ) (some : levels ≡ 0 → ⊥
     formed_components h =
         form_components Γ before (type_within types (levels - 1)) (type_at types at) (subst (WellFormedInside Γ before) within_step h)
 
--- no levels left: the pure type
-pub formed_none : (Γ : Scope) (before : ℕ → ℕ) (types : List SheetType) (levels at : ℕ) → levels ≡ 0 → WellFormedInside Γ before (type_within types levels at)
-formed_none Γ before types levels at e = subst (λ d. WellFormedInside Γ before (type_within types d at)) (sym e) tt
-
--- entries and components as they are tested: with counts in an array
-pub entries_tested : (Γ : Scope) (b d : ℕ → ℕ) (n m : ℕ) (es fs : List Entry) (r : Bool) → ((u : ℕ) → b u ≡ push n d u) → n ≡ m → es ≡ fs
-    → Decides r (AllByRecursion (λ e. WellFormedEntry Γ b (entry e)) es) → Decides r (AllByRecursion (λ e. WellFormedEntry Γ (push m d) (entry e)) fs)
-entries_tested Γ b d n m es fs r s en ee h =
+-- entries and components as they are tested: by equal marks, and with counts in an array
+pub entries_tested : (next scope : List Bool) → next ≡ scope → (b d : ℕ → ℕ) (n m : ℕ) (es fs : List Entry) (r : Bool) → ((u : ℕ) → b u ≡ push n d u) → n ≡ m → es ≡ fs
+    → Decides r (AllByRecursion (λ e. WellFormedEntry (marked next) b (entry e)) es) → Decides r (AllByRecursion (λ e. WellFormedEntry (marked scope) (push m d) (entry e)) fs)
+entries_tested next scope e b d n m es fs r s en ee h =
+    let Γ = marked scope in
     let same : (u : ℕ) → b u ≡ push m d u = λ u. s u ∙ ap (λ k. push k d u) en in
     subst (λ l. Decides r (AllByRecursion (λ e. WellFormedEntry Γ (push m d) (entry e)) l)) ee
     (Decides-like r
     (All-weaker _ _ (λ e. same_entry Γ Γ (λ y. refl) b (push m d) same (entry e)) es)
     (All-weaker _ _ (λ e. same_entry Γ Γ (λ y. refl) (push m d) b (λ u. sym (same u)) (entry e)) es)
-    h)
+    (subst (λ l. Decides r (AllByRecursion (λ e. WellFormedEntry (marked l) b (entry e)) es)) e h))
 
-pub component_tested : (Γ : Scope) (b d : ℕ → ℕ) (i : ℕ) (t : calculus.NameType) (r : Bool) → ((u : ℕ) → b u ≡ push i d u)
-    → Decides r (WellFormedInside Γ b t) → Decides r (WellFormedInside Γ (push i d) t)
-component_tested Γ b d i t r s h =
-    Decides-like r (same_inside Γ Γ (λ y. refl) b (push i d) s t) (same_inside Γ Γ (λ y. refl) (push i d) b (λ u. sym (s u)) t) h
+pub component_tested : (next scope : List Bool) → next ≡ scope → (b d : ℕ → ℕ) (i : ℕ) (t : calculus.NameType) (r : Bool) → ((u : ℕ) → b u ≡ push i d u)
+    → Decides r (WellFormedInside (marked next) b t) → Decides r (WellFormedInside (marked scope) (push i d) t)
+component_tested next scope e b d i t r s h =
+    let Γ = marked scope in
+    Decides-like r (same_inside Γ Γ (λ y. refl) b (push i d) s t) (same_inside Γ Γ (λ y. refl) (push i d) b (λ u. sym (s u)) t)
+    (subst (λ l. Decides r (WellFormedInside (marked l) b t)) e h)
 
 -- the component at a place
 pub component_at : (xs ys : List ℕ) (i x : ℕ) → Some x ≡ nth xs i → xs ≡ ys → x ≡ get_or ys i 0

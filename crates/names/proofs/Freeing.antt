@@ -22,10 +22,6 @@ free_then t x n o r e l b s =
     ∙ ap not (sym s ∙ ap is_some b ∙ binder_bound (elements t.nodes) x)
     ∙ ap (λ k. k && not (bound (elements t.nodes) x)) (sym (sym (ap (ltb x) e) ∙ lt-ltb x n l))
 
-pub free_else : (t : Tables) (x n : ℕ) → n ≡ length (elements t.names) → n ≤ x → ltb x n ≡ free t x
-free_else t x n e l =
-    le-ltb x n l ∙ ap (λ k. k && not (bound (elements t.nodes) x)) (sym (sym (ap (ltb x) e) ∙ le-ltb x n l))
-
 -- the public type means the public one, and no other does
 pub public_form : (f : ℕ → calculus.NameType) (x : SheetType) (r : Bool) → Decides r (x ≡ Public) → Decides r (form f x ≡ calculus.public)
 public_form f x r d = (λ h. ap (form f) (d.0 h), λ e. d.1 (back x e))
@@ -34,17 +30,3 @@ public_form f x r d = (λ h. ap (form f) (d.0 h), λ e. d.1 (back x e))
     back Pure e = let z : ◌≡◌ {A = ℕ} 0 1 = cc in absurd (omega arith)
     back Public e = refl
     back (Channel c) e = let z : ◌≡◌ {A = ℕ} 0 1 = cc in absurd (omega arith)
-
--- a name that is not free need not be public, and one that is has to be
-pub as_bound : (t : Tables) (x : ℕ) → free t x ≡ false → in_scope (free t) x ≡ true → types_of t x ≡ calculus.public
-as_bound t x f h = absurd (both_ways (free t x) f (and_parts (ltb x 64) (free t x) h).1)
-
-pub as_free : (t : Tables) (types : List SheetType) (x n : ℕ) (r : Bool) → x < 64 → free t x ≡ true → types ≡ elements t.types → n ≡ get_or (elements t.names) x (length (elements t.types))
-    → Decides r (type_within types 4 n ≡ calculus.public) → Decides r (in_scope (free t) x ≡ true → types_of t x ≡ calculus.public)
-as_free t types x n r l f es en d =
-    let here : Decides r (type_within (elements t.types) 4 n ≡ calculus.public) = subst (λ ts. Decides r (type_within ts 4 n ≡ calculus.public)) es d in
-    let there : Decides r (types_of t x ≡ calculus.public) = subst (λ k. Decides r (type_within (elements t.types) 4 k ≡ calculus.public)) en here in
-    (λ h _. there.0 h, λ good. there.1 (good (and_from (ltb x 64) (free t x) (lt-ltb x 64 l) f)))
-
-pub pure_not_public : (f : ℕ → calculus.NameType) (x : SheetType) → x ≡ Pure → Decides false (form f x ≡ calculus.public)
-pure_not_public f x e = subst (λ y. Decides false (form f y ≡ calculus.public)) (sym e) (λ h. absurd (both_ways false refl h), λ h. let z : ◌≡◌ {A = ℕ} 0 1 = cc in absurd (omega arith))

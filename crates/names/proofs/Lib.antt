@@ -3,3 +3,4 @@ pub mod Marking
 pub mod Climbing
 pub mod Freeing
 pub mod Forming
+pub mod Made

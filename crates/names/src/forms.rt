@@ -6,151 +6,109 @@ ghost use Rattle.tables.specs.Elements.{elements};
 ghost use Rattle.meaning.specs.Failures.{FirstFailure};
 ghost use Rattle.meaning.specs.Scopes.{scope_for};
 ghost use Rattle.meaning.specs.Types as meant;
-ghost use Rattle.names.specs.Charts.{Charts};
 ghost use Rattle.names.specs.Marks.{marked, outer, Counts};
 
-use crate::free::type_number;
-use crate::scopes::scope_for;
-use sheet::Chart;
+use crate::charted::Charted;
 use sheet::types::{components_of, entries_of};
-use tables::tables::{Entry, Item, SheetType, Tables};
+use tables::tables::{Entry, Item, SheetType};
 
 /// The most levels that a type nests.
 const LEVELS: usize = 4;
 
-/// Whether a name is in scope.
-fn is_in_scope(name: usize, scope: &[bool]) -> bool
-    ensures { result ≡ marked scope.now name }
-{
-    if name < scope.len() {
-        scope[name]
-    } else {
-        false
-    }
+/// Where a type stands: the names in its scope, and how many arguments of the channels around it come before, from the
+/// nearest channel out.
+#[derive(Drop)]
+struct Inside<'a> {
+    scope: &'a [bool; 64],
+    counts: [usize; 4],
 }
 
-/// How many arguments of the channel `arrows` levels out come before.
-fn count_at(counts: &[usize], arrows: usize) -> usize
-    ensures { result ≡ outer counts.now arrows }
-{
-    if arrows < counts.len() {
-        counts[arrows]
-    } else {
-        0
-    }
-}
-
-/// The counts one level further in.
-fn pushed(count: usize, counts: &[usize; 4]) -> [usize; 4]
-    ensures each { (u : ℕ) → u < 4 → outer result u ≡ push count (outer counts.now) u }
-    ensures size { length result ≡ 4 }
-{
-    [count, counts[0], counts[1], counts[2]]
-}
-
-/// Whether an item may stand in a type: a name in scope, or an argument that comes before.
-fn item_fits(item: Item, scope: &[bool], counts: &[usize]) -> bool
-    requires { length scope.now ≡ 64 }
-    ensures { Decides result (WellFormedItem (marked scope.now) (outer counts.now) (meant.item item)) }
-{
-    match item {
-        Item::Name(name) => is_in_scope(name as usize, scope),
-        Item::Index { arrows, position } => {
-            (position as usize).saturating_sub(1) < count_at(counts, arrows as usize)
+impl<'a> Inside<'a> {
+    /// One channel further in, with so many arguments of it before.
+    fn pushed(&self, count: usize) -> Inside<'a>
+        ensures scope { result.scope.now ≡ self.now.scope.now }
+        ensures each { (u : ℕ) → u < 4 → outer result.counts u ≡ push count (outer self.now.counts) u }
+        ensures size { length result.counts ≡ 4 }
+    {
+        let [first, second, third, _] = self.counts;
+        Inside {
+            scope: self.scope,
+            counts: [count, first, second, third],
         }
     }
-}
 
-/// Whether an entry may stand in a type.
-fn entry_fits(entry: &Entry, scope: &[bool], counts: &[usize]) -> bool
-    requires { length scope.now ≡ 64 }
-    ensures { Decides result (WellFormedEntry (marked scope.now) (outer counts.now) (meant.entry entry.now)) }
-{
-    let items = entry.label.items;
-    let mut place = 0;
-    while let Some(item) = items.get(place) {
-        if !item_fits(item, scope, counts) {
+    /// Whether an item may stand in a type: a name in scope, or an argument that comes before.
+    fn item_fits(&self, item: Item) -> bool
+        ensures { Decides result (WellFormedItem (marked self.now.scope.now) (outer self.now.counts) (meant.item item)) }
+    {
+        match item {
+            Item::Name(name) => {
+                let scope = self.scope;
+                scope.get(name as usize).copied().unwrap_or(false)
+            }
+            Item::Index { arrows, position } => {
+                let before = self.counts.get(arrows as usize).copied().unwrap_or(0);
+                (position as usize).saturating_sub(1) < before
+            }
+        }
+    }
+
+    /// Whether an entry may stand in a type.
+    fn entry_fits(&self, entry: &Entry) -> bool
+        ensures { Decides result (WellFormedEntry (marked self.now.scope.now) (outer self.now.counts) (meant.entry entry.now)) }
+    {
+        entry.label.items.all(|item| self.item_fits(item))
+    }
+
+    /// Whether each of the entries may stand in a type.
+    fn entries_fit(&self, entries: &[Entry]) -> bool
+        ensures { Decides result (AllByRecursion (λ e. WellFormedEntry (marked self.now.scope.now) (outer self.now.counts) (meant.entry e)) entries.now) }
+    {
+        entries.iter().all(|entry| self.entry_fits(entry))
+    }
+
+    /// Whether type `at`, so many levels in, is well formed.
+    fn is_formed(&self, types: &[SheetType], levels: usize, at: usize) -> bool
+        requires { Counts levels self.now.counts }
+        ensures { Decides result (WellFormedInside (marked self.now.scope.now) (outer self.now.counts) (meant.type_within types.now levels at)) }
+    {
+        if levels == 0 {
+            return true;
+        }
+        let inner = components_of(types, at);
+        if !self
+            .pushed(inner.count())
+            .entries_fit(entries_of(types, at))
+        {
             return false;
         }
-        place += 1;
-    }
-    true
-}
-
-/// Whether each of the entries may stand in a type.
-fn entries_fit(entries: &[Entry], scope: &[bool], counts: &[usize]) -> bool
-    requires { length scope.now ≡ 64 }
-    ensures { Decides result (AllByRecursion (λ e. WellFormedEntry (marked scope.now) (outer counts.now) (meant.entry e)) entries.now) }
-{
-    for entry in entries {
-        if !entry_fits(entry, scope, counts) {
-            return false;
+        for place in 0..inner.count() {
+            let component = inner.get(place).unwrap() as usize;
+            if !self.pushed(place).is_formed(types, levels - 1, component) {
+                return false;
+            }
         }
+        true
     }
-    true
 }
 
-/// Whether type `at`, so many levels in, is well formed inside other channels: `counts` says how many of their
-/// arguments come before.
-fn is_formed(
-    types: &[SheetType],
-    levels: usize,
-    at: usize,
-    scope: &[bool],
-    counts: &[usize; 4],
-) -> bool
-    requires scope { length scope.now ≡ 64 }
-    requires counts { Counts levels counts.now }
-    ensures { Decides result (WellFormedInside (marked scope.now) (outer counts.now) (meant.type_within types.now levels at)) }
-{
-    if levels == 0 {
-        return true;
+impl<'a> Charted<'a> {
+    /// Whether the type of name `x` is well formed in its scope.
+    fn is_well_formed(&self, x: usize) -> bool
+        requires { x < 64 }
+        ensures { Decides result (WellFormed (scope_for self.now.tables.now x) (meant.types_of self.now.tables.now x)) }
+    {
+        let outermost = Inside {
+            scope: &self.scope_for(x),
+            counts: [0; 4],
+        };
+        outermost.is_formed(self.tables.types.as_slice(), LEVELS, self.type_number(x))
     }
-    let inner = components_of(types, at);
-    if !entries_fit(entries_of(types, at), scope, &pushed(inner.count(), counts)) {
-        return false;
-    }
-    let mut place = 0;
-    while let Some(component) = inner.get(place) {
-        if !is_formed(
-            types,
-            levels - 1,
-            component as usize,
-            scope,
-            &pushed(place, counts),
-        ) {
-            return false;
-        }
-        place += 1;
-    }
-    true
-}
 
-/// Whether the type of name `x` is well formed in its scope.
-fn is_well_formed(tables: &Tables, chart: &Chart, x: usize) -> bool
-    requires charted { Charts (elements tables.now.nodes) chart.now }
-    requires within { x < 64 }
-    ensures { Decides result (WellFormed (scope_for tables.now x) (meant.types_of tables.now x)) }
-{
-    let scope = scope_for(tables, chart, x);
-    is_formed(
-        tables.types.as_slice(),
-        LEVELS,
-        type_number(tables, x),
-        &scope,
-        &[0; 4],
-    )
-}
-
-/// The first name whose type is not well formed in its scope, or none.
-pub(crate) fn find_ill_formed(tables: &Tables, chart: &Chart) -> Option<usize>
-    requires { Charts (elements tables.now.nodes) chart.now }
-    ensures { FirstFailure (λ x. WellFormed (scope_for tables.now x) (meant.types_of tables.now x)) (length (elements tables.now.names)) result }
-{
-    for x in 0..tables.names.len() {
-        if !is_well_formed(tables, chart, x) {
-            return Some(x);
-        }
+    /// The first name whose type is not well formed in its scope, or none.
+    pub(crate) fn find_ill_formed(&self) -> Option<usize>
+        ensures { FirstFailure (λ x. WellFormed (scope_for self.now.tables.now x) (meant.types_of self.now.tables.now x)) (length (elements self.now.tables.now.names)) result }
+    {
+        (0..self.tables.names.len()).find(|x| !self.is_well_formed(*x))
     }
-    None
 }

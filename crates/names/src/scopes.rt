@@ -1,31 +1,19 @@
 //! The scope of a name's type, as a mark for each of the 64 names.
-ghost use Rattle.std.specs.Prelude.{◌≡◌, ℕ, ◌<◌, false, ◌||◌, length, take, slice_index_or};
+ghost use Rattle.std.specs.Prelude.{◌≡◌, ℕ, ◌<◌, false, ◌||◌, length, take, Some, Decides, slice_index_or};
 ghost use Rattle.std.specs.Option.{option_to_list};
-ghost use Rattle.tables.specs.Elements.{elements};
+ghost use Rattle.fault.specs.First.{Lowest};
+ghost use Rattle.fault.specs.Items.{nth};
 ghost use Rattle.tables.specs.Encoding.{parts};
 ghost use Rattle.sheet.specs.Tree.{node_at};
 ghost use Rattle.sheet.specs.Scope.{member, binds};
 ghost use Rattle.meaning.specs.Scopes.{free, scope_at, scope_for, earlier};
-ghost use Rattle.names.specs.Charts.{Charts};
 ghost use Rattle.names.specs.Marks.{Marks};
 
-use crate::free::is_free;
-use sheet::Chart;
+use crate::charted::Charted;
 use sheet::chart::names_bound;
-use tables::tables::{Node, Tables};
+use std::array;
+use tables::tables::Node;
 use tables::tuple::Tuple;
-
-/// The free names.
-fn free_names(tables: &Tables, chart: &Chart) -> [bool; 64]
-    requires { Charts (elements tables.now.nodes) chart.now }
-    ensures { Marks result (free tables.now) }
-{
-    let mut marks = [false; 64];
-    for x in 0..64 {
-        marks[x] = is_free(tables, chart, x);
-    }
-    marks
-}
 
 /// Marks the name, if there is one and it has a place.
 fn mark_name(name: Option<u8>, marks: &mut [bool])
@@ -57,48 +45,62 @@ fn bound_at(nodes: &[Node], n: usize) -> Tuple<u8>
     }
 }
 
+/// Whether `x` stands at a place of the names.
+fn stands_at(names: &Tuple<u8>, place: usize, x: usize) -> bool
+    ensures { Decides result (nth (parts names.now) place ≡ Some x) }
+{
+    names.get(place).is_some_and(|name| name as usize == x)
+}
+
+/// The first place at which `x` stands among the names, or none.
+fn place_of(names: &Tuple<u8>, x: usize) -> Option<usize>
+    ensures { Lowest (λ k. nth (parts names.now) k ≡ Some x) (length (parts names.now)) result }
+{
+    (0..names.count()).find(|place| stands_at(names, *place, x))
+}
+
 /// How many of the names stand before `x`; all of them, where it is not among them.
 fn count_before(names: &Tuple<u8>, x: usize) -> usize
     ensures { take result (parts names.now) ≡ earlier x (parts names.now) }
 {
-    let mut place = 0;
-    while let Some(name) = names.get(place) {
-        if name as usize == x {
-            return place;
+    place_of(names, x).unwrap_or(names.count())
+}
+
+impl<'a> Charted<'a> {
+    /// The free names.
+    fn free_names(&self) -> [bool; 64]
+        ensures { Marks result (free self.now.tables.now) }
+    {
+        array::from_fn(|x| self.is_free(x))
+    }
+
+    /// The names in scope at node `n`: the free ones, and those that the nodes above it bind.
+    fn scope_at(&self, n: usize) -> [bool; 64]
+        requires { n < 1024 }
+        ensures { Marks result (scope_at self.now.tables.now n) }
+    {
+        let mut marks = self.free_names();
+        let mut from = n;
+        while let Some(parent) = self.chart.parent(from) {
+            let names = bound_at(self.tables.nodes.as_slice(), parent);
+            mark(&names, names.count(), &mut marks);
+            from = parent;
         }
-        place += 1;
+        marks
     }
-    place
-}
 
-/// The names in scope at node `n`: the free ones, and those that the nodes above it bind.
-fn scope_at(tables: &Tables, chart: &Chart, n: usize) -> [bool; 64]
-    requires charted { Charts (elements tables.now.nodes) chart.now }
-    requires within { n < 1024 }
-    ensures { Marks result (scope_at tables.now n) }
-{
-    let mut marks = free_names(tables, chart);
-    let mut from = n;
-    while let Some(parent) = chart.parent(from) {
-        let names = bound_at(tables.nodes.as_slice(), parent);
-        mark(&names, names.count(), &mut marks);
-        from = parent;
+    /// The names that the type of `x` may mention: those in scope where it is bound, and those earlier in the same
+    /// receive; for a free name, the free names.
+    pub(crate) fn scope_for(&self, x: usize) -> [bool; 64]
+        requires { x < 64 }
+        ensures { Marks result (scope_for self.now.tables.now x) }
+    {
+        let Some(binder) = self.chart.binder(x) else {
+            return self.free_names();
+        };
+        let mut marks = self.scope_at(binder);
+        let names = bound_at(self.tables.nodes.as_slice(), binder);
+        mark(&names, count_before(&names, x), &mut marks);
+        marks
     }
-    marks
-}
-
-/// The names that the type of `x` may mention: those in scope where it is bound, and those earlier in the same
-/// receive; for a free name, the free names.
-pub(crate) fn scope_for(tables: &Tables, chart: &Chart, x: usize) -> [bool; 64]
-    requires charted { Charts (elements tables.now.nodes) chart.now }
-    requires within { x < 64 }
-    ensures { Marks result (scope_for tables.now x) }
-{
-    let Some(binder) = chart.binder(x) else {
-        return free_names(tables, chart);
-    };
-    let mut marks = scope_at(tables, chart, binder);
-    let names = bound_at(tables.nodes.as_slice(), binder);
-    mark(&names, count_before(&names, x), &mut marks);
-    marks
 }

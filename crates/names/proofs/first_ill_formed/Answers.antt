@@ -1,19 +1,13 @@
-use Rattle.std.proofs.Common.{length, subst}
+use Rattle.std.proofs.Common.{length, ◌∙◌, subst}
 use Rattle.calculus.specs.Scopes.{WellFormed}
 use Rattle.tables.specs.Elements.{elements}
 use Rattle.tables.specs.declared.tables.Tables.{Tables}
 use Rattle.meaning.specs.Failures.{FirstFailure}
 use Rattle.meaning.specs.Scopes.{scope_for}
 use Rattle.meaning.specs.Types.{types_of}
-use Rattle.names.proofs.Charting.{charts}
 use Rattle.names.proofs.first_ill_formed.Goals as goal
-
-pub find_ill_formed-requires : goal.find_ill_formed-requires
-find_ill_formed-requires g c =
-    charts _ c.tables-tables.result.now c.tables-tables.ensures.sound c.as_slice.result.now c.as_slice.ensures.value c.new-chart.result
-    c.new-chart.ensures.binders c.new-chart.ensures.parents c.new-chart.ensures.sizes
 
 pub returns : goal.returns
 returns g c =
     let Found = λ (t : Tables). FirstFailure (λ x. WellFormed (scope_for t x) (types_of t x)) (length (elements t.names)) c.find_ill_formed.result in
-    subst Found c.tables-tables.ensures.value c.find_ill_formed.ensures
+    subst Found (c.new.ensures ∙ c.tables.ensures.value) c.find_ill_formed.ensures

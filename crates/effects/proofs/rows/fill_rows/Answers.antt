@@ -1,13 +1,30 @@
-use Rattle.std.proofs.Common.{◌≡◌, ℕ, ◌+◌, ◌/◌, ◌%◌, ◌<◌, get_or, set, sym, subst, arith}
-use Rattle.std.proofs.lemmas.List.Edits.{fill_by_more}
+use Rattle.std.proofs.Common.{◌≡◌, ◌-◌, ◌*◌, ◌/◌, ◌%◌, ◌<◌, ◌≤◌, List, length, get_or, ap, ◌∙◌, ap₂, ⊎_elim, arith}
+use Rattle.std.proofs.lemmas.Bool.{cases_lt}
+use Rattle.tables.specs.Elements.{elements}
+use Rattle.tables.specs.declared.tables.Node.{Node}
 use Rattle.sheet.specs.Tree.{node_at}
 use Rattle.effects.specs.Rows.{blank, rows_of}
-use Rattle.effects.specs.declared.row.Row.{Row}
+use Rattle.effects.proofs.Lists.{before_part, in_part}
 use Rattle.effects.proofs.rows.fill_rows.Goals as goal
 
-pub loop-i-preserved : goal.loop-i-preserved
-loop-i-preserved c =
-    let i = c.loop-i.i in
-    let f : ℕ → Row = λ k. get_or (rows_of c.args.full c.args.types.now c.args.owners.now (node_at c.args.nodes.now (k / 8))) (k % 8) blank in
-    subst (λ (x : Row). (k : ℕ) → k < i + 1 → get_or (set c.loop-i.rows i x) k blank ≡ f k) (sym c.node_row.ensures)
-    (fill_by_more f c.loop-i.rows i blank (omega arith) c.loop-i.invariant)
+pub loop-n-preserved : goal.loop-n-preserved
+loop-n-preserved c i l =
+    let n = c.loop-n.n in
+    let t = c.args.tables.now in
+    let made = λ (x : Node). rows_of c.args.full (elements t.types) (elements t.names) x in
+    let nodes = c.as_slice-nodes.ensures.value in
+    let room : 8 * n ≤ length c.loop-n.rows = omega (arith, c.requires, c.loop-n.auto.rows, c.loop-n-test.true, ap length nodes) in
+    ⊎_elim
+    (λ q. before_part c.loop-n.rows c.copy_from_slice.new.self (8 * n) _ i blank room q ∙ c.loop-n.invariant i q)
+    (λ q.
+    let j = i - 8 * n in
+    let short : j < 8 = omega arith in
+    let node : n ≡ i / 8 = omega arith in
+    let row : j ≡ i % 8 = omega arith in
+    let size : length c.copy_from_slice.new.self ≡ 8 = ap length c.copy_from_slice.ensures.after ∙ c.node_rows.ensures.size in
+    in_part c.loop-n.rows c.copy_from_slice.new.self (8 * n) _ i blank room q (omega arith)
+    ∙ ap (λ r. get_or r j blank) c.copy_from_slice.ensures.after
+    ∙ c.node_rows.ensures.rows j short
+    ∙ ap (λ (ns : List Node). get_or (made (node_at ns n)) j blank) nodes
+    ∙ ap₂ (λ m k. get_or (made (node_at (elements t.nodes) m)) k blank) node row)
+    (cases_lt i (8 * n))
