@@ -39,6 +39,14 @@ pub trait Counting: Copy {
     fn join(&self, a: u32, b: u32) -> Option<u32>
         ensures { SomeIff result ((operations self.now).join a b ≤ (operations self.now).ceiling) ((operations self.now).join a b) };
 
+    /// Two amounts joined; 0 where that passes the ceiling.
+    final fn join_or_zero(&self, a: u32, b: u32) -> u32
+        ensures within { (operations self.now).join a b ≤ (operations self.now).ceiling → result ≡ (operations self.now).join a b }
+        ensures past { ((operations self.now).join a b ≤ (operations self.now).ceiling → ⊥) → result ≡ 0 }
+    {
+        self.join(a, b).unwrap_or(0)
+    }
+
     /// What `a` still lacks once `b` is there.
     fn lack(&self, a: u32, b: u32) -> u32
         ensures { result ≡ (operations self.now).lack a b };

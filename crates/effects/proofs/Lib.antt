@@ -1,6 +1,5 @@
 pub mod Lists
 pub mod Naming
-pub mod Joins
 pub mod Steps
 pub mod Sheets
 pub mod Orders

@@ -8,3 +8,4 @@ pub mod Steps
 pub mod Above
 pub mod Clean
 pub mod Failing
+pub mod Joining

@@ -1,5 +1,5 @@
 //! The tables of a sheet: its types, names and nodes, with every field in its own form.
-ghost use Rattle.std.specs.Prelude.{◌≡◌, []};
+ghost use Rattle.std.specs.Prelude.{◌≡◌, [], length, slice_index_or};
 ghost use Rattle.tables.specs.Elements.{elements};
 ghost use Rattle.tables.specs.Encoding.{parts};
 ghost use Rattle.tables.specs.Channels.{components, entries};
@@ -122,6 +122,16 @@ impl Tables {
             types: Table::new(SheetType::Pure),
             names: Table::new(0),
             nodes: Table::new(Node::Stop),
+        }
+    }
+
+    /// The number of a name's type; one past the last type where there is no such name.
+    pub fn type_number(&self, name: usize) -> usize
+        ensures { result ≡ slice_index_or (elements self.now.names) name (length (elements self.now.types)) }
+    {
+        match self.names.as_slice().get(name) {
+            Some(number) => usize::from(*number),
+            None => self.types.len(),
         }
     }
 }

@@ -9,7 +9,7 @@ ghost use Rattle.meaning.specs.Types.{types_of};
 ghost use Rattle.meaning.specs.Uses.{ArgumentsFit, TypesFit};
 
 use crate::equal::same_type;
-use crate::lookup::{number_at, type_at, type_of};
+use crate::lookup::{number_at, type_at};
 use counting::Counting;
 use sheet::OpenedSheet;
 use tables::tables::{Node, SheetType};
@@ -58,13 +58,13 @@ fn argument_fits<C: Counting>(
 {
     let tables = sheet.tables();
     let types = tables.types.as_slice();
-    let own = type_of(tables, number_at(&names, place));
-    match type_at(types, type_of(tables, channel)) {
+    let own = tables.type_number(number_at(&names, place));
+    match type_at(types, tables.type_number(usize::from(channel))) {
         SheetType::Pure => is_pure(&type_at(types, own)),
         SheetType::Public => is_public(&type_at(types, own)),
         SheetType::Channel(found) => {
             let earlier = names.first(place);
-            let component = number_at(&found.components, place) as usize;
+            let component = number_at(&found.components, place);
             same_type(&sheet.counting(), types, &earlier, 1, own, component)
         }
     }
@@ -74,18 +74,12 @@ fn argument_fits<C: Counting>(
 fn is_pure(given: &SheetType) -> bool
     ensures { Decides result (given.now ≡ SheetType.Pure) }
 {
-    match given {
-        SheetType::Pure => true,
-        _ => false,
-    }
+    matches!(given, SheetType::Pure)
 }
 
 /// Whether a type is public.
 fn is_public(given: &SheetType) -> bool
     ensures { Decides result (given.now ≡ SheetType.Public) }
 {
-    match given {
-        SheetType::Public => true,
-        _ => false,
-    }
+    matches!(given, SheetType::Public)
 }

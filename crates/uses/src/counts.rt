@@ -7,7 +7,7 @@ ghost use Rattle.meaning.specs.Failures.{FirstFailure};
 ghost use Rattle.meaning.specs.Types.{types_of};
 ghost use Rattle.meaning.specs.Uses.{CountFits};
 
-use crate::lookup::{type_at, type_of};
+use crate::lookup::type_at;
 use tables::tables::{Node, SheetType, Tables};
 
 /// The first node whose channel is pure or takes another count of names, or none.
@@ -34,7 +34,7 @@ fn count_fits(tables: &Tables, node: &Node) -> bool
 fn takes(tables: &Tables, channel: u8, count: usize) -> bool
     ensures { Decides result (Takes (types_of tables.now channel) count) }
 {
-    let at = type_of(tables, channel);
+    let at = tables.type_number(usize::from(channel));
     match type_at(tables.types.as_slice(), at) {
         SheetType::Pure => false,
         SheetType::Public => true,

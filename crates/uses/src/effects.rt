@@ -10,30 +10,12 @@ use counting::Counting;
 use fault::Label;
 use tables::tables::{Entry, Item};
 
-/// Two amounts joined, where that does not pass the ceiling.
-fn join_within<C: Counting>(counting: &C, a: u32, b: u32) -> u32
-    requires { (C.Counting.operations counting.now).join a b ≤ (C.Counting.operations counting.now).ceiling }
-    ensures { result ≡ (C.Counting.operations counting.now).join a b }
-{
-    match counting.join(a, b) {
-        Some(joined) => joined,
-        None => 0,
-    }
-}
-
-/// Whether two labels are one.
-fn same_label(a: &Label<Item>, b: &Label<Item>) -> bool
-    ensures { Decides result (a.now ≡ b.now) }
-{
-    *a == *b
-}
-
 /// What one entry gives a label: its amount where it has this label, else nothing.
 fn amount_for(given: &Entry, label: &Label<Item>) -> u32
     requires { (placed_label given.now.label ≡ true) × (placed_label label.now ≡ true) }
     ensures { result ≡ amount_for (label_of meant.item label.now.items) (meant.entry given.now) }
 {
-    if same_label(&given.label, label) {
+    if given.label.is_same(label) {
         given.amount
     } else {
         0
@@ -47,8 +29,8 @@ fn amount_at<C: Counting>(counting: &C, entries: &[Entry], label: &Label<Item>) 
     ensures { result ≡ entries_at (C.Counting.operations counting.now) (map meant.entry entries.now) (label_of meant.item label.now.items) }
 {
     let mut amount = 0;
-    for i in (0..entries.len()).rev() {
-        amount = join_within(counting, amount_for(&entries[i], label), amount);
+    for entry in entries {
+        amount = counting.join_or_zero(amount, amount_for(entry, label));
     }
     amount
 }

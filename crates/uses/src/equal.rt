@@ -34,8 +34,8 @@ pub(crate) fn same_type<C: Counting>(
     }
     let (lefts, rights) = (a.components(), b.components());
     for place in 0..lefts.count() {
-        let component = number_at(&lefts, place) as usize;
-        let required = number_at(&rights, place) as usize;
+        let component = number_at(&lefts, place);
+        let required = number_at(&rights, place);
         if !same_type(counting, types, arguments, level + 1, component, required) {
             return false;
         }

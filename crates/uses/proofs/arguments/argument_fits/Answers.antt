@@ -26,7 +26,7 @@ same_type-requires g c =
     let t = c.tables-tables.result.now in
     let types = elements t.types in
     let e = c.as_slice-types.ensures.value in
-    let at = c.type_of.result in
+    let at = c.type_number.result in
     let is = c.in-Channel.ensures ∙ ap (λ xs. type_at xs at) e in
     let component = c.number_at-component.ensures ∙ ap (λ (x : SheetType). get_or (components x) c.args.place 0) is in
     record {
@@ -40,9 +40,9 @@ returns-in-Pure g c =
     let t = c.tables-tables.result.now in
     let types = elements t.types in
     let e = c.as_slice-types.ensures.value in
-    let own = c.type_of-own.result in
-    let has = c.type_of-own.ensures ∙ ap (number t) c.number_at.ensures in
-    let is = c.in-Pure.ensures ∙ ap (λ xs. type_at xs c.type_of.result) e ∙ ap (type_at types) c.type_of.ensures in
+    let own = c.type_number-own.result in
+    let has = c.type_number-own.ensures ∙ ap (number t) c.number_at.ensures in
+    let is = c.in-Pure.ensures ∙ ap (λ xs. type_at xs c.type_number.result) e ∙ ap (type_at types) (c.type_number.ensures ∙ ap (number t) c.from.ensures) in
     let read = c.type_at-in-Pure.ensures ∙ ap (λ xs. type_at xs own) e in
     by_sheet K t c.args.sheet.now.tables c.is_pure.result c.args.channel (parts c.args.names) c.args.place c.tables-tables.ensures.value
     (fits_pure K t c.is_pure.result own c.args.channel (parts c.args.names) c.args.place has is (subst (λ x. Decides c.is_pure.result (x ≡ Pure)) read c.is_pure.ensures))
@@ -53,9 +53,9 @@ returns-in-Public g c =
     let t = c.tables-tables.result.now in
     let types = elements t.types in
     let e = c.as_slice-types.ensures.value in
-    let own = c.type_of-own.result in
-    let has = c.type_of-own.ensures ∙ ap (number t) c.number_at.ensures in
-    let is = c.in-Public.ensures ∙ ap (λ xs. type_at xs c.type_of.result) e ∙ ap (type_at types) c.type_of.ensures in
+    let own = c.type_number-own.result in
+    let has = c.type_number-own.ensures ∙ ap (number t) c.number_at.ensures in
+    let is = c.in-Public.ensures ∙ ap (λ xs. type_at xs c.type_number.result) e ∙ ap (type_at types) (c.type_number.ensures ∙ ap (number t) c.from.ensures) in
     let read = c.type_at-in-Public.ensures ∙ ap (λ xs. type_at xs own) e in
     by_sheet K t c.args.sheet.now.tables c.is_public.result c.args.channel (parts c.args.names) c.args.place c.tables-tables.ensures.value
     (fits_public K t c.is_public.result own c.args.channel (parts c.args.names) c.args.place has is (subst (λ x. Decides c.is_public.result (x ≡ Public)) read c.is_public.ensures))
@@ -66,9 +66,9 @@ returns-in-Channel g c =
     let t = c.tables-tables.result.now in
     let types = elements t.types in
     let e = c.as_slice-types.ensures.value in
-    let own = c.type_of-own.result in
-    let has = c.type_of-own.ensures ∙ ap (number t) c.number_at.ensures in
-    let is = c.in-Channel.ensures ∙ ap (λ xs. type_at xs c.type_of.result) e ∙ ap (type_at types) c.type_of.ensures in
+    let own = c.type_number-own.result in
+    let has = c.type_number-own.ensures ∙ ap (number t) c.number_at.ensures in
+    let is = c.in-Channel.ensures ∙ ap (λ xs. type_at xs c.type_number.result) e ∙ ap (type_at types) (c.type_number.ensures ∙ ap (number t) c.from.ensures) in
     let component = c.number_at-component.result in
     let earlier = parts c.first-earlier.result in
     let same =

@@ -2,7 +2,7 @@ use Rattle.std.proofs.Common.{◌≡◌, ◌≤◌, take, add-one, sym, ap, ◌�
 use Rattle.std.proofs.lemmas.List.{take_all}
 use Rattle.calculus.specs.Joins.{join_over}
 use Rattle.effects.specs.Steps.{gives}
-use Rattle.effects.proofs.Joins.{first_more, first_below}
+use Rattle.meaning.proofs.Joining.{first_more, first_below}
 use Rattle.effects.proofs.Steps.{below_ceiling}
 use Rattle.effects.proofs.work.Work.own_amount.Goals as goal
 
