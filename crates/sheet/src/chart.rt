@@ -14,8 +14,8 @@ use tables::tuple::Tuple;
 /// For each name the lowest node that binds it, and for each number the lowest node that has it as a child.
 #[derive(Drop)]
 pub struct Chart {
-    pub(crate) binders: [Option<usize>; 64],
-    pub(crate) parents: [Option<usize>; 1024],
+    binders: [Option<usize>; 64],
+    parents: [Option<usize>; 1024],
 }
 
 impl Chart {
@@ -58,16 +58,6 @@ pub fn names_bound(node: &Node) -> Tuple<u8>
     }
 }
 
-/// A name as a place of a table.
-fn place_of(name: Option<u8>) -> Option<usize>
-    ensures { result ≡ name }
-{
-    match name {
-        Some(x) => Some(x as usize),
-        None => None,
-    }
-}
-
 /// Notes node `n` for number `x`, if there is one and it has a place, unless a node is noted there already.
 fn note(x: Option<usize>, n: usize, table: &mut [Option<usize>])
     ensures { (y : ℕ) → y < length table.old → slice_index_or table.new y None ≡ option_or (slice_index_or table.old y None) (then_some (member y (option_to_list x)) n) }
@@ -85,7 +75,7 @@ fn note_names(names: &Tuple<u8>, n: usize, table: &mut [Option<usize>])
     ensures { (y : ℕ) → y < length table.old → slice_index_or table.new y None ≡ option_or (slice_index_or table.old y None) (then_some (member y (parts names.now)) n) }
 {
     for i in 0..names.count() {
-        note(place_of(names.get(i)), n, table);
+        note(names.get(i).map(usize::from), n, table);
     }
 }
 
@@ -112,12 +102,8 @@ fn find_parents(nodes: &[Node], parents: &mut [Option<usize>])
 }
 
 /// What a table has at a place; none past its end.
-pub(crate) fn at(table: &[Option<usize>], place: usize) -> Option<usize>
+fn at(table: &[Option<usize>], place: usize) -> Option<usize>
     ensures { result ≡ slice_index_or table.now place None }
 {
-    if place < table.len() {
-        table[place]
-    } else {
-        None
-    }
+    table.get(place).copied().flatten()
 }

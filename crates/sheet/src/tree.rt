@@ -52,10 +52,7 @@ fn count_children(nodes: &[Node], counts: &mut [usize])
 fn is_above(child: Option<usize>, n: usize) -> bool
     ensures { result ≡ all (λ c. nat_lt n c) (option_to_list child) }
 {
-    match child {
-        Some(c) => n < c,
-        None => true,
-    }
+    child.is_none_or(|c| n < c)
 }
 
 /// Whether node number `n`, which is named `count` times, has a child not above it or is not a child just once.

@@ -1,4 +1,4 @@
-use Rattle.std.proofs.Common.{◌≡◌, ◌<◌, length, get_or, take, None, ◌∙◌, arith}
+use Rattle.std.proofs.Common.{◌≡◌, ◌<◌, length, get_or, take, None, ◌∙◌, arith, rules}
 use Rattle.std.specs.Option.{option_to_list}
 use Rattle.fault.specs.Items.{nth}
 use Rattle.tables.specs.Encoding.{parts}
@@ -15,5 +15,6 @@ loop-i-preserved c y l =
     let b = c.loop-i.invariant y l₀ in
     let m = noted_more old c.args.n y (take i xs) (option_to_list (nth xs i)) in
     let t = take_nth xs i in
-    let g : c.place_of.result ≡ nth xs i = c.place_of.ensures ∙ c.get.ensures in
+    let same : c.map.result ≡ c.get.result = search rules in
+    let g : c.map.result ≡ nth xs i = same ∙ c.get.ensures in
     cc
