@@ -34,7 +34,7 @@ impl Counting for Once {
 
     fn join(&self, a: u32, b: u32) -> Option<u32> {
         let larger = a.max(b);
-        if larger > 1 { None } else { Some(larger) }
+        (larger <= 1).then_some(larger)
     }
 
     fn lack(&self, a: u32, b: u32) -> u32 {

@@ -20,7 +20,7 @@ impl Parts {
     pub fn new(full: u32) -> Result<Parts, Fault>
         ensures { MatchResult result (λ p. p.full ≡ full) (λ f. (f ≡ OutOfRange 0) × ((1 ≤ full) × (full ≤ 100000) → ⊥)) }
     {
-        if full < 1 || full > 100000 {
+        if !(1..=100000).contains(&full) {
             return Err(Fault::OutOfRange(0));
         }
         Ok(Parts { full })
@@ -58,10 +58,7 @@ impl Counting for Parts {
     }
 
     fn join(&self, a: u32, b: u32) -> Option<u32> {
-        match a.checked_add(b) {
-            Some(sum) if sum <= 1000000000 => Some(sum),
-            _ => None,
-        }
+        a.checked_add(b).filter(|sum| *sum <= 1000000000)
     }
 
     fn lack(&self, a: u32, b: u32) -> u32 {

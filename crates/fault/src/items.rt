@@ -1,7 +1,7 @@
 //! One to four things in order: what a label names, what a message carries.
-ghost use Rattle.std.specs.Prelude.{◌≡◌, [], length, take, Some, MatchOption};
+ghost use Rattle.std.specs.Prelude.{◌≡◌, [], ◌∷◌, length, take, Some, MatchOption};
 ghost use Rattle.std.specs.List.{All, AllZip};
-ghost use Rattle.fault.specs.Items.{list, nth, AllAnswer, AnyAnswer, SomeNone};
+ghost use Rattle.fault.specs.Items.{list, things, nth, AllAnswer, AnyAnswer, SomeNone};
 
 /// One to four things, in order.
 #[derive(Clone, Copy, PartialEq, Eq, Debug)]
@@ -41,6 +41,18 @@ impl<T: Copy> Items<T> {
             (Items::Four(_, _, c, _), 2) => Some(*c),
             (Items::Four(_, _, _, d), 3) => Some(*d),
             _ => None,
+        }
+    }
+
+    /// The first, and those that follow it, if there are any.
+    pub fn split_first(&self) -> (T, Option<Items<T>>)
+        ensures { list self.now ≡ result.0 ∷ things result.1 }
+    {
+        match *self {
+            Items::One(a) => (a, None),
+            Items::Two(a, b) => (a, Some(Items::One(b))),
+            Items::Three(a, b, c) => (a, Some(Items::Two(b, c))),
+            Items::Four(a, b, c, d) => (a, Some(Items::Three(b, c, d))),
         }
     }
 

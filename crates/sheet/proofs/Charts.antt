@@ -2,7 +2,7 @@
 use Rattle.std.proofs.Common.{◌≡◌, ℕ, zero, suc, ◌<◌, ◌≤◌, Bool, true, false, ◌&&◌, ltb, ◌⊎◌, List, [], ◌∷◌, length, get_or, Some, None, Decides, Option, sym, refl, ap, ◌∙◌, subst, inl, inr, ⊎_elim, arith}
 use Rattle.std.proofs.lemmas.List.{get_or_past}
 use Rattle.std.proofs.lemmas.Bool.{both_ways, ltb-true, and_parts, cases_lt, cases_Bool, false≢true}
-use Rattle.std.proofs.lemmas.Bool.Decides.{nat_tests, not_from_Decides}
+use Rattle.std.proofs.lemmas.Bool.Decides.{nat_tests}
 use Rattle.fault.specs.First.{Lowest}
 use Rattle.tables.specs.Encoding.{parts}
 use Rattle.tables.specs.Range.{all, below, node_fits}
@@ -98,15 +98,9 @@ module _ {nodes : List Node} {binders parents : List (Option ℕ)} (t : Charted 
       let same : s.0 ≡ b = ⊎_elim (λ lower. absurd (both_ways _ (binder.first s.0 lower) s.3)) (λ le. omega (arith, s.2)) (cases_lt s.0 b) in
       inr (x, m, (b, s.1 ∙ ap Some same, λ o. out (over_below o)))
 
-  -- a node that binds wrongly is misnamed
-  pub misnamed_then : (n : ℕ) (r : Bool) → Decides r (Binding nodes binders n) → r ≡ true → Decides r (Misnamed nodes n)
-  misnamed_then n r d yes-r = (λ e. binding_wrong n (d.0 e), λ _. yes-r)
-
-  -- one that does not is misnamed if it uses wrongly
-  pub misnamed_else : (n : ℕ) (q r : Bool) → n < length nodes → Decides q (Binding nodes binders n) → q ≡ false → Decides r (Using nodes binders parents n)
-      → Decides r (Misnamed nodes n)
-  misnamed_else n q r l d no-q u =
-      (λ e. using_wrong n (u.0 e), λ m. ⊎_elim (λ w. absurd (not_from_Decides q d no-q w)) u.1 (wrong_either n l m))
+  -- a node is misnamed where it binds wrongly or uses wrongly
+  pub misnamed_decides : (n : ℕ) (r : Bool) → n < length nodes → Decides r (Binding nodes binders n ⊎ Using nodes binders parents n) → Decides r (Misnamed nodes n)
+  misnamed_decides n r l d = (λ t. ⊎_elim (binding_wrong n) (using_wrong n) (d.0 t), λ m. d.1 (wrong_either n l m))
 
 -- the tables that the loops fill, for nodes with their names and children in range
 module _ (nodes : List Node) (fit : (names : ℕ) × (names ≤ 64) × (all (node_fits names (length nodes)) nodes ≡ true)) where

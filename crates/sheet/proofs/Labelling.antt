@@ -1,5 +1,6 @@
 -- Searching the entries of a type for a label, and for one that stands twice.
-use Rattle.std.proofs.Common.{◌≡◌, ℕ, ◌+◌, ◌-◌, ◌<◌, ◌≤◌, Bool, true, false, not, List, length, get_or, take, drop, Decides, sym, refl, ap, ◌∙◌, subst, arith, length-drop, below_more}
+use Rattle.std.proofs.Common.{◌≡◌, ℕ, ◌+◌, ◌-◌, ◌<◌, ◌≤◌, Bool, true, false, not, List, [], ◌∷◌, length, get_or, take, drop, Decides, MatchBool, sym, refl, ap, ◌∙◌, subst, arith, length-drop, below_more}
+use Rattle.std.specs.List.{AllWithin, HoldsAt}
 use Rattle.std.proofs.lemmas.List.{get_or_default, get_or-drop, take_all}
 use Rattle.std.proofs.lemmas.Bool.{both_ways}
 use Rattle.fault.specs.declared.label.Label.{Label}
@@ -13,17 +14,30 @@ use Rattle.tables.specs.declared.tables.Entry.{Entry}
 use Rattle.tables.specs.declared.tables.Item.{Item}
 use Rattle.tables.specs.declared.tables.SheetType.{SheetType}
 
--- no entry below number i has the label
-abbrev pub Unlabelled : List Entry → Label Item → ℕ → Type 0
-Unlabelled es l i = (k : ℕ) → k < i → (e : Entry) → (get_or es k e).label ≡ l → ⊥
+-- a fact that holds, and one that does not, as decided
+pub decided : {P : Type 0} → P → Decides true P
+decided p = (λ _. p, λ _. refl)
 
-pub unlabelled_more : (es : List Entry) (l : Label Item) (i : ℕ) (d : Entry) → i < length es → Unlabelled es l i → ((get_or es i d).label ≡ l → ⊥) → Unlabelled es l (i + 1)
-unlabelled_more es l i d within none here =
-    below_more (λ k. (e : Entry) → (get_or es k e).label ≡ l → ⊥) i none
-    (λ e same. here (ap (λ x. x.label) (get_or_default es i d e within) ∙ same))
+pub undecided : {P : Type 0} → (P → ⊥) → Decides false P
+undecided h = (λ e. let z : ◌≡◌ {A = ℕ} 0 1 = cc in absurd (omega arith), λ p. absurd (h p))
 
-pub unlabelled_all : (es : List Entry) (l : Label Item) (i : ℕ) → length es ≤ i → Unlabelled es l i → Labelled es l → ⊥
-unlabelled_all es l i past none (labelled j e lt same) = none j (omega arith) e same
+pub refuted : {P : Type 0} → Decides false P → P → ⊥
+refuted d p = let e = d.1 p in let z : ◌≡◌ {A = ℕ} 0 1 = cc in omega arith
+
+-- an entry, where there is one
+some_entry : (es : List Entry) → 0 < length es → Entry
+some_entry [] l = absurd (omega arith)
+some_entry (e ∷ es) l = e
+
+-- what a search for a label says
+pub labelled_decides : (es : List Entry) (l : Label Item) (r : Bool)
+    → MatchBool r ((k : ℕ) × (k < length es) × HoldsAt (λ (e : Entry). e.label ≡ l) es k) (AllWithin (λ (e : Entry). e.label ≡ l → ⊥) es 0 (length es))
+    → Decides r (Labelled es l)
+labelled_decides es l true h = let e = some_entry es (let k = h.1 in omega arith) in decided (labelled h.0 e h.1 (h.2 e))
+labelled_decides es l false h = undecided none
+  where
+    none : Labelled es l → ⊥
+    none (labelled j e lt same) = h j e (omega arith) lt same
 
 -- no entry below number i has its label again behind it
 abbrev pub Unrepeated : List Entry → ℕ → Type 0
@@ -64,16 +78,6 @@ unrepeated_more es i d none here =
 
 pub unrepeated_all : (es : List Entry) (i : ℕ) → length es ≤ i → Unrepeated es i → Repeated es → ⊥
 unrepeated_all es i past none (repeated k j e up within same) = none k (omega arith) j e up within same
-
--- a fact that holds, and one that does not, as decided
-pub decided : {P : Type 0} → P → Decides true P
-decided p = (λ _. p, λ _. refl)
-
-pub undecided : {P : Type 0} → (P → ⊥) → Decides false P
-undecided h = (λ e. let z : ◌≡◌ {A = ℕ} 0 1 = cc in absurd (omega arith), λ p. absurd (h p))
-
-pub refuted : {P : Type 0} → Decides false P → P → ⊥
-refuted d p = let e = d.1 p in let z : ◌≡◌ {A = ℕ} 0 1 = cc in omega arith
 
 -- a type's two faults, decided together
 pub misformed_twice : (types : List SheetType) (t : ℕ) (es : List Entry) → es ≡ entries (type_at types t) → Repeated es → Misformed types t

@@ -1,9 +1,9 @@
 -- What is at a place of a tuple, and nesting one level further, for the tests on types.
 use Rattle.std.proofs.Common.{◌≡◌, ℕ, zero, suc, ◌+◌, ◌-◌, ◌<◌, ◌≤◌, Bool, true, ◌&&◌, List, [], ◌∷◌, length, drop, Option, Some, None, sym, refl, ap, ◌∙◌, arith}
-use Rattle.fault.specs.Items.{nth}
+use Rattle.fault.specs.Items.{things, nth}
 use Rattle.fault.specs.declared.items.Items.{Items}
 use Rattle.fault.specs.declared.items.Items.TheVariants.{One, Two, Three, Four}
-use Rattle.tables.specs.Encoding.{things, parts}
+use Rattle.tables.specs.Encoding.{parts}
 use Rattle.tables.specs.Range.{all}
 use Rattle.tables.specs.Channels.{components}
 use Rattle.sheet.specs.Types.{nests, type_at}

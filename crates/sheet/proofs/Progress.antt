@@ -4,6 +4,7 @@ use Rattle.std.specs.List.{flat_map}
 use Rattle.std.proofs.lemmas.List.{take_more, drop_more, drop_all, take_all, nil_from_length}
 use Rattle.std.proofs.lemmas.Bool.{cases_lt, both_ways, and_from}
 use Rattle.tables.specs.Elements.{elements}
+use Rattle.fault.specs.declared.fault.Fault.TheVariants.{OutOfRange}
 use Rattle.records.specs.Records.{codes, Unreadable}
 use Rattle.tables.specs.Encoding.{body, records, type_records, node_record}
 use Rattle.tables.specs.Range.{Totals, totals, all_from, below, type_fits, node_fits, ranged, Fits, fits_head, fits_pure, fits_public, fits_channel, fits_entry, fits_name, fits_node}
@@ -179,8 +180,10 @@ module _ (b : Basis) (given : List ℕ) (n : Census) (rs : List Record) (all : R
     first_read = next_read rs 0 given rest r all.whole has_first read
 
     -- a head that is not the counting's is out of range
-    pub head_unfit : (r ≡ raw.Head 1 b.code b.full → ⊥) → Filled b given n (Err 0)
+    pub head_unfit : (r ≡ raw.Head 1 b.code b.full → ⊥) → Filled b given n (Err (OutOfRange 0))
     head_unfit h = (
+      0,
+      refl,
       rs,
       all,
       has_first,

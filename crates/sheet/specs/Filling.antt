@@ -1,6 +1,8 @@
 -- How the tables grow by one record, and what a fill of them answers.
 use Rattle.std.specs.Prelude.{◌≡◌, ℕ, ◌<◌, true, List, [], ◌∷◌, ◌++◌, length, take, Some, None, Ok, Err, Option, Result, ◌≢◌, slice_index_or}
 use Rattle.std.specs.List.{flat_map}
+use Rattle.fault.specs.declared.fault.Fault.{Fault}
+use Rattle.fault.specs.declared.fault.Fault.TheVariants.{OutOfRange}
 use Rattle.tables.specs.Elements.{elements, last_of}
 use Rattle.records.specs.Records.{codes}
 use Rattle.tables.specs.Encoding.{parts, spread, type_records, entry_record, node_record, records}
@@ -75,9 +77,9 @@ pub record Spells (b : Basis) (rs : List Record) (t : Tables) : Type 0 where
   pub in_range : ranged b.largest (totals t) t ≡ true
 
 -- a fill answers the sheet that the records mean, or the first record that is out of range
-abbrev pub Filled : Basis → List ℕ → Census → Result Tables ℕ → Type 0
+abbrev pub Filled : Basis → List ℕ → Census → Result Tables Fault → Type 0
 Filled b given n (Ok t) = (rs : List Record) × Readable given n rs × Spells b rs t × ((q : ℕ) → q < length rs → FitsAt b rs q) × (0 < length (elements t.nodes))
-Filled b given n (Err p) = (rs : List Record) × Readable given n rs × (p < length rs) × (FitsAt b rs p → ⊥) × ((q : ℕ) → q < p → FitsAt b rs q)
+Filled b given n (Err f) = (p : ℕ) × (f ≡ OutOfRange p) × (rs : List Record) × Readable given n rs × (p < length rs) × (FitsAt b rs p → ⊥) × ((q : ℕ) → q < p → FitsAt b rs q)
 
 -- the type that a record means, without entries, in range as type number own
 pub record IsType (own : ℕ) (r : Record) (x : SheetType) : Type 0 where

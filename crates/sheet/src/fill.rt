@@ -10,13 +10,20 @@ ghost use Rattle.sheet.specs.declared.census.Class.TheVariants.{Entry as entry};
 
 use crate::census::{Census, Class};
 use crate::scan::class;
-use fault::{Items, Label};
+use fault::Fault;
 use records::record::{Record, read};
 use tables::basis::Basis;
 use tables::decode::{entry_of, node_of, tuple_of};
 use tables::range::{entry_fits, node_fits, tuple_below};
-use tables::table::Table;
-use tables::tables::{ChannelType, Entry, Item, Node, SheetType, Tables};
+use tables::tables::{ChannelType, Entry, Node, SheetType, Tables, no_entries};
+
+/// What every record is held to: what the counting asks for, and how many of each the whole sheet has.
+#[derive(Clone, Copy)]
+struct Limits {
+    basis: Basis,
+    totals: Census,
+    ghost few: { totals.names ≤ 64 },
+}
 
 /// The type that a record means, as type number `own`, with no entries yet; none where it is out of range.
 fn type_of(given: Record, own: usize) -> Option<SheetType>
@@ -31,15 +38,9 @@ fn type_of(given: Record, own: usize) -> Option<SheetType>
             if !tuple_below(own, &components) {
                 return None;
             }
-            let filler = Entry {
-                label: Label {
-                    items: Items::One(Item::Name(0)),
-                },
-                amount: 0,
-            };
             Some(SheetType::Channel(ChannelType {
                 components,
-                entries: Table::new(filler),
+                entries: no_entries(),
             }))
         }
         _ => None,
@@ -47,21 +48,20 @@ fn type_of(given: Record, own: usize) -> Option<SheetType>
 }
 
 /// The entry that a record means; none where it is out of range.
-fn entry_in(given: Record, basis: Basis, totals: Census) -> Option<Entry>
-    requires { totals.names ≤ 64 }
-    ensures { MatchOption result (NoEntryFits basis (totals_of totals) given) (IsEntry basis (totals_of totals) given) }
+fn entry_in(given: Record, limits: Limits) -> Option<Entry>
+    ensures { MatchOption result (NoEntryFits limits.basis (totals_of limits.totals) given) (IsEntry limits.basis (totals_of limits.totals) given) }
 {
     let Record::Entry { amount, items } = given else {
         return None;
     };
     let made = entry_of(amount, items)?;
-    entry_fits(basis.largest, totals.names, &made).then_some(made)
+    entry_fits(limits.basis.largest, limits.totals.names, &made).then_some(made)
 }
 
 /// The type of a record, at the end of the types; none where it is out of range.
-fn add_type(tables: &mut Tables, given: Record, basis: Basis, totals: Census) -> Option<()>
+fn add_type(tables: &mut Tables, given: Record, limits: Limits) -> Option<()>
     requires { length (elements tables.old.types) < 64 }
-    ensures { MatchOption result (NoTypeFits (length (elements tables.old.types)) given) (λ _. Grown basis (totals_of totals) tables.old tables.new given) }
+    ensures { MatchOption result (NoTypeFits (length (elements tables.old.types)) given) (λ _. Grown limits.basis (totals_of limits.totals) tables.old tables.new given) }
 {
     let made = type_of(given, tables.types.len())?;
     tables.types.push(made).ok()
@@ -78,12 +78,11 @@ fn last_channel(tables: &Tables) -> Option<ChannelType>
 }
 
 /// The entry of a record, at the end of the last channel's; none where it is out of range.
-fn add_entry(tables: &mut Tables, given: Record, basis: Basis, totals: Census) -> Option<()>
-    requires room { Room tables.old entry }
-    requires few { totals.names ≤ 64 }
-    ensures { MatchOption result (NoEntryFits basis (totals_of totals) given) (λ _. Grown basis (totals_of totals) tables.old tables.new given) }
+fn add_entry(tables: &mut Tables, given: Record, limits: Limits) -> Option<()>
+    requires { Room tables.old entry }
+    ensures { MatchOption result (NoEntryFits limits.basis (totals_of limits.totals) given) (λ _. Grown limits.basis (totals_of limits.totals) tables.old tables.new given) }
 {
-    let made = entry_in(given, basis, totals)?;
+    let made = entry_in(given, limits)?;
     let mut channel = last_channel(tables)?;
     channel.entries.push(made).ok()?;
     tables.types.replace_last(SheetType::Channel(channel));
@@ -91,41 +90,42 @@ fn add_entry(tables: &mut Tables, given: Record, basis: Basis, totals: Census) -
 }
 
 /// The name of a record, at the end of the names; none where it is out of range.
-fn add_name(tables: &mut Tables, given: Record, basis: Basis, totals: Census) -> Option<()>
+fn add_name(tables: &mut Tables, given: Record, limits: Limits) -> Option<()>
     requires { length (elements tables.old.names) < 64 }
-    ensures { MatchOption result (NoNameFits (totals_of totals) given) (λ _. Grown basis (totals_of totals) tables.old tables.new given) }
+    ensures { MatchOption result (NoNameFits (totals_of limits.totals) given) (λ _. Grown limits.basis (totals_of limits.totals) tables.old tables.new given) }
 {
     match given {
-        Record::Name { sort } if usize::from(sort) < totals.types => tables.names.push(sort).ok(),
+        Record::Name { sort } if usize::from(sort) < limits.totals.types => tables
+            .names
+            .push(sort)
+            .ok(),
         _ => None,
     }
 }
 
 /// The node of a record, at the end of the nodes; none where it is out of range.
-fn add_node(tables: &mut Tables, given: Record, basis: Basis, totals: Census) -> Option<()>
-    requires room { length (elements tables.old.nodes) < 1024 }
-    requires few { totals.names ≤ 64 }
-    ensures { MatchOption result (NoNodeFits (totals_of totals) given) (λ _. Grown basis (totals_of totals) tables.old tables.new given) }
+fn add_node(tables: &mut Tables, given: Record, limits: Limits) -> Option<()>
+    requires { length (elements tables.old.nodes) < 1024 }
+    ensures { MatchOption result (NoNodeFits (totals_of limits.totals) given) (λ _. Grown limits.basis (totals_of limits.totals) tables.old tables.new given) }
 {
     let made = node_of(given)?;
-    if !node_fits(totals.names, totals.nodes, &made) {
+    if !node_fits(limits.totals.names, limits.totals.nodes, &made) {
         return None;
     }
     tables.nodes.push(made).ok()
 }
 
 /// What a record means, at its place in the tables; none where it is out of range.
-fn add(tables: &mut Tables, given: Record, basis: Basis, totals: Census) -> Option<()>
-    requires room { Room tables.old (class_of given) }
-    requires few { totals.names ≤ 64 }
-    ensures { MatchOption result (Fits basis (totals_of totals) (length (elements tables.old.types)) given → ⊥) (λ _. Grown basis (totals_of totals) tables.old tables.new given) }
+fn add(tables: &mut Tables, given: Record, limits: Limits) -> Option<()>
+    requires { Room tables.old (class_of given) }
+    ensures { MatchOption result (Fits limits.basis (totals_of limits.totals) (length (elements tables.old.types)) given → ⊥) (λ _. Grown limits.basis (totals_of limits.totals) tables.old tables.new given) }
 {
     match class(given) {
         Class::Head => None,
-        Class::Plain | Class::Channel => add_type(tables, given, basis, totals),
-        Class::Entry => add_entry(tables, given, basis, totals),
-        Class::Name => add_name(tables, given, basis, totals),
-        Class::Node => add_node(tables, given, basis, totals),
+        Class::Plain | Class::Channel => add_type(tables, given, limits),
+        Class::Entry => add_entry(tables, given, limits),
+        Class::Name => add_name(tables, given, limits),
+        Class::Node => add_node(tables, given, limits),
     }
 }
 
@@ -141,27 +141,28 @@ fn head_fits(given: Record, basis: Basis) -> bool
         }
 }
 
-/// The tables that the records of `bytes` mean, or the number of the first record that is out of range. All records
-/// can be read and stand in order, and `totals` is how many there are of each.
-pub fn fill(bytes: &[u8], basis: Basis, totals: Census) -> Result<Tables, usize>
+/// The tables that the records of `bytes` mean, or the first record that is out of range. All records can be read and
+/// stand in order, and `totals` is how many there are of each.
+pub fn fill(bytes: &[u8], basis: Basis, totals: Census) -> Result<Tables, Fault>
     requires { (rs : List Record) × Readable bytes.now totals rs }
     ensures { Filled basis bytes.now totals result }
 {
     let Some((head, rest)) = read(bytes) else {
-        return Err(0);
+        return Err(Fault::Unreadable(0));
     };
     if !head_fits(head, basis) {
-        return Err(0);
+        return Err(Fault::OutOfRange(0));
     }
+    let limits = Limits { basis, totals };
     let mut tables = Tables::new();
     let mut place = 1;
     let mut left = rest;
     while !left.is_empty() {
         let Some((next, rest)) = read(left) else {
-            return Err(place);
+            return Err(Fault::Unreadable(place));
         };
-        let Some(()) = add(&mut tables, next, basis, totals) else {
-            return Err(place);
+        let Some(()) = add(&mut tables, next, limits) else {
+            return Err(Fault::OutOfRange(place));
         };
         place += 1;
         left = rest;

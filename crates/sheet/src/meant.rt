@@ -14,11 +14,7 @@ pub(crate) fn meant(bytes: &[u8], basis: Basis) -> Result<Tables, Fault>
     ensures { Means basis bytes.now result }
 {
     let totals = scan(bytes)?;
-    match fill(bytes, basis, totals) {
-        Ok(tables) => {
-            check(&tables)?;
-            Ok(tables)
-        }
-        Err(place) => Err(Fault::OutOfRange(place)),
-    }
+    let tables = fill(bytes, basis, totals)?;
+    check(&tables)?;
+    Ok(tables)
 }

@@ -1,167 +1,106 @@
 //! Scope: a name is bound once at most, and used only below its binder.
 ghost use Rattle.std.specs.Prelude.{◌≡◌, ℕ, ◌<◌, ◌≤◌, true, false, ◌⊎◌, ◌++◌, length, Decides};
-ghost use Rattle.std.specs.Option.{option_to_list};
 ghost use Rattle.fault.specs.First.{Lowest};
 ghost use Rattle.tables.specs.Encoding.{parts};
 ghost use Rattle.tables.specs.Range.{all, node_fits};
 ghost use Rattle.sheet.specs.Tree.{misgrown};
-ghost use Rattle.sheet.specs.Scope.{repeats, binds, uses, Misnamed, Any, Over, Falling, Taken, Outside, Charted};
+ghost use Rattle.sheet.specs.Scope.{repeats, binds, uses, Misnamed, Any, Over, Falling, Taken, Outside};
 
-use crate::chart::{Chart, at, names_bound};
+use crate::chart::{Chart, names_bound};
 use fault::Items;
 use tables::tables::Node;
 use tables::tuple::Tuple;
 
 /// The names that a node uses: its channel, if it has one, and the others.
-fn names_used(node: &Node) -> (Option<u8>, Tuple<u8>)
-    ensures { option_to_list result.0 ++ parts result.1 ≡ uses node.now }
+fn names_used(node: &Node) -> (Tuple<u8>, Tuple<u8>)
+    ensures { parts result.0 ++ parts result.1 ≡ uses node.now }
 {
+    let none = Tuple(None);
     match node {
-        Node::Send { channel, names } => (Some(*channel), *names),
-        Node::Receive { channel, .. } => (Some(*channel), Tuple(None)),
-        Node::Test { left, right, .. } => (None, Tuple(Some(Items::Two(*left, *right)))),
-        Node::Begin { label, .. } | Node::End { label, .. } => (None, Tuple(Some(label.items))),
-        _ => (None, Tuple(None)),
+        Node::Send { channel, names } => (Tuple(Some(Items::One(*channel))), *names),
+        Node::Receive { channel, .. } => (Tuple(Some(Items::One(*channel))), none),
+        Node::Test { left, right, .. } => (none, Tuple(Some(Items::Two(*left, *right)))),
+        Node::Begin { label, .. } | Node::End { label, .. } => (none, Tuple(Some(label.items))),
+        _ => (none, none),
     }
 }
 
-/// Whether `n` stands below node `b`: goes up the parents from `n`.
-fn is_below(n: usize, b: usize, parents: &[Option<usize>]) -> bool
-    requires { Falling parents.now }
-    ensures { Decides result (Over parents.now b n) }
-{
-    let mut from = n;
-    while let Some(parent) = at(parents, from) {
-        if parent == b {
-            return true;
+/// The chart of nodes that form a tree. Every parent has a lower number, so that the way up from a node ends.
+#[derive(Clone, Copy)]
+struct TreeChart<'a> {
+    chart: &'a Chart,
+    ghost falls: { Falling chart.now.parents },
+}
+
+impl TreeChart<'_> {
+    /// Whether `n` stands below node `b`: goes up the parents from `n`.
+    fn is_below(&self, n: usize, b: usize) -> bool
+        ensures { Decides result (Over self.now.chart.now.parents b n) }
+    {
+        let mut from = n;
+        while let Some(parent) = self.chart.parent(from) {
+            if parent == b {
+                return true;
+            }
+            from = parent;
         }
-        from = parent;
+        false
     }
-    false
-}
 
-/// Whether a node with a number lower than `n` binds the name, if there is one.
-fn is_taken(name: Option<u8>, n: usize, binders: &[Option<usize>]) -> bool
-    ensures { Decides result (Any (Taken binders.now n) (option_to_list name)) }
-{
-    let Some(x) = name else {
-        return false;
-    };
-    match at(binders, x as usize) {
-        Some(b) => b < n,
-        None => false,
+    /// Whether a node with a number lower than `n` binds the name.
+    fn is_taken(&self, name: u8, n: usize) -> bool
+        ensures { Decides result (Taken self.now.chart.now.binders n name) }
+    {
+        self.chart.binder(usize::from(name)).is_some_and(|b| b < n)
     }
-}
 
-/// Whether the name, if there is one, is bound by a node that `n` does not stand below.
-fn is_outside(
-    name: Option<u8>,
-    n: usize,
-    binders: &[Option<usize>],
-    parents: &[Option<usize>],
-) -> bool
-    requires { Falling parents.now }
-    ensures { Decides result (Any (Outside binders.now parents.now n) (option_to_list name)) }
-{
-    let Some(x) = name else {
-        return false;
-    };
-    match at(binders, x as usize) {
-        Some(b) => !is_below(n, b, parents),
-        None => false,
+    /// Whether the name is bound by a node that `n` does not stand below.
+    fn is_outside(&self, name: u8, n: usize) -> bool
+        ensures { Decides result (Outside self.now.chart.now.binders self.now.chart.now.parents n name) }
+    {
+        let Some(binder) = self.chart.binder(usize::from(name)) else {
+            return false;
+        };
+        !self.is_below(n, binder)
     }
-}
 
-/// Whether a node with a number lower than `n` binds one of the names.
-fn any_taken(names: &Tuple<u8>, n: usize, binders: &[Option<usize>]) -> bool
-    ensures { Decides result (Any (Taken binders.now n) (parts names.now)) }
-{
-    for i in 0..names.count() {
-        if is_taken(names.get(i), n, binders) {
-            return true;
-        }
+    /// Whether node number `n` binds a name twice, or one that a node with a lower number binds.
+    fn binds_wrongly(&self, node: &Node, n: usize) -> bool
+        ensures { Decides result ((repeats (binds node.now) ≡ true) ⊎ Any (Taken self.now.chart.now.binders n) (binds node.now)) }
+    {
+        let names = names_bound(node);
+        has_repeats(&names) || names.any(|x| self.is_taken(x, n))
     }
-    false
-}
 
-/// Whether one of the names is bound by a node that `n` does not stand below.
-fn any_outside(
-    names: &Tuple<u8>,
-    n: usize,
-    binders: &[Option<usize>],
-    parents: &[Option<usize>],
-) -> bool
-    requires { Falling parents.now }
-    ensures { Decides result (Any (Outside binders.now parents.now n) (parts names.now)) }
-{
-    for i in 0..names.count() {
-        if is_outside(names.get(i), n, binders, parents) {
-            return true;
-        }
+    /// Whether node number `n` uses a name that is bound by a node that it does not stand below.
+    fn uses_wrongly(&self, node: &Node, n: usize) -> bool
+        ensures { Decides result (Any (Outside self.now.chart.now.binders self.now.chart.now.parents n) (uses node.now)) }
+    {
+        let (channel, names) = names_used(node);
+        channel.any(|x| self.is_outside(x, n)) || names.any(|x| self.is_outside(x, n))
     }
-    false
+
+    /// Whether something is wrong with the names of node number `n`.
+    fn is_misnamed(&self, node: &Node, n: usize) -> bool
+        ensures { Decides result (((repeats (binds node.now) ≡ true) ⊎ Any (Taken self.now.chart.now.binders n) (binds node.now)) ⊎ Any (Outside self.now.chart.now.binders self.now.chart.now.parents n) (uses node.now)) }
+    {
+        self.binds_wrongly(node, n) || self.uses_wrongly(node, n)
+    }
 }
 
 /// Whether a name stands among the names twice.
 fn has_repeats(names: &Tuple<u8>) -> bool
     ensures { result ≡ repeats (parts names.now) }
 {
-    match names.0 {
-        None | Some(Items::One(_)) => false,
-        Some(Items::Two(a, b)) => a == b,
-        Some(Items::Three(a, b, c)) => a == b || a == c || b == c,
-        Some(Items::Four(a, b, c, d)) => {
-            a == b || a == c || a == d || b == c || b == d || c == d
+    let mut left = names.0;
+    while let Some(items) = left {
+        let (first, others) = items.split_first();
+        if Tuple(others).any(|x| x == first) {
+            return true;
         }
+        left = others;
     }
-}
-
-/// Whether node number `n` binds a name twice, or one that a node with a lower number binds.
-fn binds_wrongly(node: &Node, n: usize, binders: &[Option<usize>]) -> bool
-    ensures { Decides result ((repeats (binds node.now) ≡ true) ⊎ Any (Taken binders.now n) (binds node.now)) }
-{
-    let names = names_bound(node);
-    has_repeats(&names) || any_taken(&names, n, binders)
-}
-
-/// Whether node number `n` uses a name that is bound by a node that it does not stand below.
-fn uses_wrongly(node: &Node, n: usize, binders: &[Option<usize>], parents: &[Option<usize>]) -> bool
-    requires { Falling parents.now }
-    ensures { Decides result (Any (Outside binders.now parents.now n) (uses node.now)) }
-{
-    let (channel, names) = names_used(node);
-    is_outside(channel, n, binders, parents) || any_outside(&names, n, binders, parents)
-}
-
-/// Whether something is wrong with the names of node number `n`.
-fn is_misnamed(
-    nodes: &[Node],
-    n: usize,
-    binders: &[Option<usize>],
-    parents: &[Option<usize>],
-) -> bool
-    requires within { n < length nodes.now }
-    requires charted { Charted nodes.now binders.now parents.now }
-    ensures { Decides result (Misnamed nodes.now n) }
-{
-    binds_wrongly(&nodes[n], n, binders) || uses_wrongly(&nodes[n], n, binders, parents)
-}
-
-/// The first node with something wrong in its names, by the tables of binders and parents.
-fn find_misnamed(
-    nodes: &[Node],
-    binders: &[Option<usize>],
-    parents: &[Option<usize>],
-) -> Option<usize>
-    requires { Charted nodes.now binders.now parents.now }
-    ensures { Lowest (Misnamed nodes.now) (length nodes.now) result }
-{
-    for n in 0..nodes.len() {
-        if is_misnamed(nodes, n, binders, parents) {
-            return Some(n);
-        }
-    }
-    None
+    false
 }
 
 /// The first node that binds a name already bound, or uses a bound name and does not stand below its binder.
@@ -172,5 +111,11 @@ pub fn first_misnamed(nodes: &[Node]) -> Option<usize>
     ensures { Lowest (Misnamed nodes.now) (length nodes.now) result }
 {
     let chart = Chart::new(nodes);
-    find_misnamed(nodes, &chart.binders, &chart.parents)
+    let tree = TreeChart { chart: &chart };
+    for (n, node) in nodes.iter().enumerate() {
+        if tree.is_misnamed(node, n) {
+            return Some(n);
+        }
+    }
+    None
 }

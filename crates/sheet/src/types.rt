@@ -1,5 +1,5 @@
 //! What a type must keep beyond its ranges: no label twice, and nesting at most 4.
-ghost use Rattle.std.specs.Prelude.{◌≡◌, length, Decides};
+ghost use Rattle.std.specs.Prelude.{◌≡◌, ◌-◌, ◌<◌, length, Decides};
 ghost use Rattle.fault.specs.First.{Lowest};
 ghost use Rattle.tables.specs.Encoding.{parts};
 ghost use Rattle.sheet.specs.Labels.{Labelled, Repeated};
@@ -17,6 +17,7 @@ const LEVELS: usize = 4;
 pub fn first_misformed(types: &[SheetType]) -> Option<usize>
     ensures { Lowest (Misformed types.now) (length types.now) result }
 {
+    // `find` is no plainer here: the proof asks for the closure's contract, written out.
     for at in 0..types.len() {
         if is_misformed(types, at) {
             return Some(at);
@@ -33,21 +34,17 @@ fn is_misformed(types: &[SheetType], at: usize) -> bool
 }
 
 /// Whether the nesting of type `at` is at most `levels`. It looks no more than `levels` levels down.
+#[cycle(nests_within)]
 fn nests_within(types: &[SheetType], levels: usize, at: usize) -> bool
     ensures { result ≡ nests types.now levels at }
 {
-    if levels == 0 {
-        return false;
-    }
-    let inner = components_of(types, at);
-    let mut place = 0;
-    while let Some(component) = inner.get(place) {
-        if !nests_within(types, levels - 1, component as usize) {
-            return false;
-        }
-        place += 1;
-    }
-    true
+    levels > 0
+        && components_of(types, at).all(
+            |component| -> bool
+                requires { 0 < levels }
+                ensures { result ≡ nests types.entry.now (levels - 1) component }
+            { nests_within(types, levels - 1, usize::from(component)) },
+        )
 }
 
 /// The components of type `at`, by their numbers; none where there is no such type.
@@ -86,17 +83,5 @@ fn repeats_label(all: &[Entry]) -> bool
 fn has_label(all: &[Entry], label: &Label<Item>) -> bool
     ensures { Decides result (Labelled all.now label.now) }
 {
-    for entry in all {
-        if same_label(&entry.label, label) {
-            return true;
-        }
-    }
-    false
-}
-
-/// Whether two labels of entries are one.
-pub fn same_label(a: &Label<Item>, b: &Label<Item>) -> bool
-    ensures { Decides result (a.now ≡ b.now) }
-{
-    *a == *b
+    all.iter().any(|entry| entry.label.is_same(label))
 }

@@ -2,11 +2,11 @@
 use Rattle.std.proofs.Common.{◌≡◌, ℕ, ◌+◌, ◌-◌, ◌*◌, ◌/◌, ◌%◌, ◌≤◌, true, false, eqb, ltb, map, length, Option, Some, None, refl, ap, ◌∙◌, ap₂, arith}
 use Rattle.std.specs.Option.{option_map}
 use Rattle.std.proofs.lemmas.Bool.{ltb-true, leb-true, lt-ltb, le-ltb, ne_eqb, and_parts, and_from}
-use Rattle.fault.specs.Items.{list}
+use Rattle.fault.specs.Items.{list, things}
 use Rattle.fault.specs.declared.items.Items.{Items}
 use Rattle.fault.specs.declared.items.Items.TheVariants.{One, Two, Three, Four}
 use Rattle.fault.specs.declared.label.Label.{Label}
-use Rattle.tables.specs.Encoding.{things, parts, spread, item_byte, node_record}
+use Rattle.tables.specs.Encoding.{parts, spread, item_byte, node_record}
 use Rattle.tables.specs.Decoding.{used, counted, tuple_of, label_of, item_of, longer, items_in, entry_of, node_of}
 use Rattle.tables.specs.Range.{all, below, item_fits, entry_fits, node_fits}
 use Rattle.tables.specs.declared.tuple.Tuple.{Tuple}

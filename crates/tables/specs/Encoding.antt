@@ -1,8 +1,7 @@
 -- A sheet as its records, in the order of the file: the head, each type with its entries, the names, the nodes.
-use Rattle.std.specs.Prelude.{ℕ, ◌+◌, ◌-◌, ◌*◌, List, [], ◌∷◌, ◌++◌, map, length, Some, None, Option, slice_index_or}
+use Rattle.std.specs.Prelude.{ℕ, ◌+◌, ◌-◌, ◌*◌, List, [], ◌∷◌, ◌++◌, map, length, slice_index_or}
 use Rattle.std.specs.List.{flat_map}
-use Rattle.fault.specs.Items.{list}
-use Rattle.fault.specs.declared.items.Items.{Items}
+use Rattle.fault.specs.Items.{list, things}
 use Rattle.tables.specs.Elements.{elements}
 use Rattle.tables.specs.declared.basis.Basis.{Basis}
 use Rattle.records.specs.declared.record.Quad.{Quad}
@@ -19,10 +18,6 @@ use Rattle.tables.specs.declared.tables.Node.TheVariants.{Stop, Send, Receive, B
 use Rattle.tables.specs.declared.tables.Tables.{Tables}
 
 -- the things of a tuple in their order
-abbrev pub things : {T : Type 0} → Option (Items T) → List T
-things None = []
-things (Some items) = list items
-
 abbrev pub parts : {T : Type 0} → Tuple T → List T
 parts t = things t.0
 

@@ -1,4 +1,7 @@
 //! Records read back into the forms of the tables.
+//!
+//! These are functions and no `TryFrom`: that asks for an error, and there is nothing to tell but that there is none;
+//! an entry and a tuple are made of two values, and neither `Label` nor `Quad` is of this crate.
 ghost use Rattle.std.specs.Prelude.{◌≡◌, map, length, IfSome};
 ghost use Rattle.fault.specs.Items.{list};
 ghost use Rattle.tables.specs.Decoding as decoding;
@@ -32,17 +35,10 @@ pub fn tuple_of(count: u8, bytes: Quad) -> Option<Tuple<u8>>
     ensures back { IfSome result (λ xs. (length (parts xs) ≡ count) × (spread (parts xs) ≡ bytes)) }
 {
     if count == 0 {
-        return match bytes {
-            Quad(255, 255, 255, 255) => Some(Tuple(None)),
-            _ => None,
-        };
+        return (bytes == Quad(255, 255, 255, 255)).then_some(Tuple(None));
     }
     let items = used(bytes)?;
-    if items.count() == count as usize {
-        Some(Tuple(Some(items)))
-    } else {
-        None
-    }
+    (items.count() == usize::from(count)).then_some(Tuple(Some(items)))
 }
 
 /// The label of names that is written so.
@@ -50,8 +46,7 @@ pub fn label_of(bytes: Quad) -> Option<Label<u8>>
     ensures value { result ≡ decoding.label_of bytes }
     ensures back { IfSome result (λ l. spread (list l.items) ≡ bytes) }
 {
-    let items = used(bytes)?;
-    Some(Label { items })
+    used(bytes).map(|items| Label { items })
 }
 
 /// The item that a byte stands for: a name below 64, an index below 80.

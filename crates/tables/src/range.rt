@@ -28,22 +28,15 @@ fn item_fits(names: usize, item: Item) -> bool
 {
     match item {
         Item::Name(name) => usize::from(name) < names,
-        Item::Index { arrows, position } => arrows <= 3 && 1 <= position && position <= 4,
+        Item::Index { arrows, position } => arrows <= 3 && (1..=4).contains(&position),
     }
-}
-
-/// Whether each item is in range.
-fn items_fit(names: usize, items: &Items<Item>) -> bool
-    ensures { result ≡ range.all (range.item_fits names) (list items.now) }
-{
-    items.all(|x| item_fits(names, x))
 }
 
 /// Whether an entry is in range: its amount is 1 to the largest, and its items are.
 pub fn entry_fits(largest: u32, names: usize, entry: &Entry) -> bool
     ensures { result ≡ range.entry_fits largest names entry.now }
 {
-    1 <= entry.amount && entry.amount <= largest && items_fit(names, &entry.label.items)
+    (1..=largest).contains(&entry.amount) && entry.label.items.all(|item| item_fits(names, item))
 }
 
 /// Whether a node is in range: its names and the nodes that it goes on to are there.

@@ -14,6 +14,7 @@ pub struct Table<T, const N: usize> {
 #[derive(Clone, Copy, PartialEq, Eq, Debug)]
 pub struct Full;
 
+// Both by hand: a derive is refused on a generic struct with a ghost field.
 impl<T: Copy, const N: usize> Copy for Table<T, N> {}
 
 impl<T: Copy, const N: usize> Clone for Table<T, N> {

@@ -7,7 +7,7 @@ ghost use Rattle.std.proofs.Common.{rules};
 
 use crate::table::Table;
 use crate::tuple::Tuple;
-use fault::{Exact, Label};
+use fault::{Exact, Items, Label};
 
 /// An item of an entry's label: a name of the sheet, or a place in a message. Index `position` (from 1) under no
 /// arrow is that argument of the type's own channel, and under u arrows that of the channel u levels further out.
@@ -98,6 +98,19 @@ pub struct Tables {
     pub types: Table<SheetType, 64>,
     pub names: Table<u8, 64>,
     pub nodes: Table<Node, 1024>,
+}
+
+/// No entries, in a table of as many as a channel may have.
+pub fn no_entries() -> Table<Entry, 8>
+    ensures { elements result ≡ [] }
+{
+    let unused = Entry {
+        label: Label {
+            items: Items::One(Item::Name(0)),
+        },
+        amount: 0,
+    };
+    Table::new(unused)
 }
 
 impl Tables {

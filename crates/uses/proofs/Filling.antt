@@ -1,5 +1,5 @@
 -- Entries with arguments put in, one after another.
-use Rattle.std.proofs.Common.{◌≡◌, ℕ, ◌+◌, ◌<◌, ◌≤◌, Bool, true, false, List, [], ◌∷◌, ◌++◌, map, length, get_or, take, MatchResult, Result, Ok, Err, sym, ap, ◌∙◌, subst, ap₂, arith}
+use Rattle.std.proofs.Common.{◌≡◌, ℕ, ◌+◌, ◌<◌, ◌≤◌, List, [], ◌∷◌, ◌++◌, map, length, get_or, take, MatchResult, Result, Ok, Err, sym, ap, ◌∙◌, subst, ap₂, arith}
 use Rattle.std.proofs.lemmas.List.{map_push, map_more, length-map, length-take-le}
 use Rattle.std.proofs.ByRecursion.{All-map}
 use Rattle.calculus.specs.Countings.{Operations}

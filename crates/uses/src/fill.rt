@@ -8,9 +8,9 @@ ghost use Rattle.meaning.specs.Labels.{label_of};
 ghost use Rattle.meaning.specs.Types as meant;
 ghost use Rattle.uses.specs.Entries.{placed, placed_label, Placed};
 
-use fault::{Items, Label};
+use fault::Label;
 use tables::table::Table;
-use tables::tables::{Entry, Item};
+use tables::tables::{Entry, Item, no_entries};
 use tables::tuple::Tuple;
 
 /// The item with the arguments put in: an index of this level becomes the argument at its position, if there is one;
@@ -54,13 +54,7 @@ pub(crate) fn fill_entries(
     ensures value { map meant.entry (elements result) ≡ map (fill_entry (parts arguments.now) level) (map meant.entry entries.now) }
     ensures placed { Placed (elements result) }
 {
-    let nothing = Entry {
-        label: Label {
-            items: Items::One(Item::Name(0)),
-        },
-        amount: 0,
-    };
-    let mut filled = Table::new(nothing);
+    let mut filled = no_entries();
     for entry in entries {
         let label = fill_label(arguments, level, entry.label);
         let _ = filled.push(Entry {

@@ -9,14 +9,14 @@ use Rattle.sheet.proofs.fill.add_entry.Goals as goal
 
 pub returns-in_err-channel : goal.returns-in_err-channel
 returns-in_err-channel c =
-    let room = c.requires.room in
+    let room = c.requires in
     let none = c.in_err-channel.ensures in
     let some = last_channel_is _ _ _ room.2 in
     rw c.from_residual-in_err-channel.ensures (λ e h s. let z : ◌≡◌ {A = ℕ} 0 1 = cc in omega arith)
 
 pub returns-in_err-ok : goal.returns-in_err-ok
 returns-in_err-ok c =
-    let room = c.requires.room in
+    let room = c.requires in
     let one = c.in_ok-channel.ensures in
     let some = last_channel_is _ _ _ room.2 in
     let same : c.in_ok-channel.channel ≡ room.1 = cc in
@@ -25,7 +25,7 @@ returns-in_err-ok c =
 
 pub returns : goal.returns
 returns c =
-    let room = c.requires.room in
+    let room = c.requires in
     let one = c.in_ok-channel.ensures in
     let some = last_channel_is _ _ _ room.2 in
     let channel = c.in_ok-channel.channel in

@@ -10,4 +10,4 @@ pub returns : goal.returns
 returns c =
     when_pushed _ _ c.push.result _ c.ok.ensures.value c.push.ensures
     (λ e. grown_node c.in_ok-made.made c.in_ok-made.ensures.back (sym c.if-not-node_fits.ensures) e refl refl)
-    (λ h. absurd (omega (arith, h.1, c.requires.room)))
+    (λ h. absurd (omega (arith, h.1, c.requires)))

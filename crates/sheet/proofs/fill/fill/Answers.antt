@@ -1,4 +1,4 @@
-use Rattle.std.proofs.Common.{◌≤◌, length, sym, subst, arith, true-eqb, false-eqb}
+use Rattle.std.proofs.Common.{◌≤◌, length, sym, refl, subst, arith, true-eqb, false-eqb}
 use Rattle.std.proofs.lemmas.Bool.Decides.{not_from_Decides}
 use Rattle.tables.specs.Elements.{elements}
 use Rattle.tables.specs.Range.{Fits}
@@ -28,20 +28,24 @@ returns-in_default-read c =
     let some = false-eqb _ 0 c.loop-left-test.ensures in
     absurd (readable c.args.basis i.0 i.1.order _ _ _ i.2 (omega arith) c.in_default-read.ensures)
 
+pub invariant_of-limits : goal.invariant_of-limits
+invariant_of-limits c =
+    let r = c.requires in
+    record { few = subst (λ n. n.names ≤ 64) (sym r.1.counts) (few_names r.0 r.1.order) }
+
 pub add-requires : goal.add-requires
 add-requires c =
     let i = c.loop-left.invariant.1 in
     let some = false-eqb _ 0 c.loop-left-test.ensures in
-    record {
-      room = has_room c.args.basis i.0 i.1.order _ _ _ i.2 _ _ (omega arith) c.in-Some-read.ensures;
-      few = subst (λ n. n.names ≤ 64) (sym i.1.counts) (few_names i.0 i.1.order);
-    }
+    has_room c.args.basis i.0 i.1.order _ _ _ i.2 _ _ (omega arith) c.in-Some-read.ensures
 
 pub returns-in_default-add : goal.returns-in_default-add
 returns-in_default-add c =
     let i = c.loop-left.invariant.1 in
     let some = false-eqb _ 0 c.loop-left-test.ensures in
     let no-fit = subst (λ n. Fits c.args.basis (totals_of n) (length (elements c.loop-left.tables.types)) c.in-Some-read.next → ⊥) i.1.counts c.in_default-add.ensures in (
+      c.loop-left.place,
+      refl,
       i.0,
       i.1,
       not_over c.args.basis i.0 i.1.order _ _ _ i.2 (omega arith),

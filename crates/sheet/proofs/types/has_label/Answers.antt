@@ -1,17 +1,12 @@
-use Rattle.std.proofs.Common.{refl}
-use Rattle.sheet.specs.Labels.Labelled.{labelled}
-use Rattle.sheet.proofs.Labelling.{decided, undecided, refuted, unlabelled_more, unlabelled_all}
+use Rattle.std.proofs.Common.{◌≡◌, rules}
+use Rattle.std.proofs.lemmas.Iterator.{cases_from_any, YieldsList-from_slice}
+use borrow.Author.Tests.{tests}
+use Rattle.tables.specs.declared.tables.Entry.{Entry}
+use Rattle.sheet.proofs.Labelling.{labelled_decides}
 use Rattle.sheet.proofs.types.has_label.Goals as goal
-
-pub returns-then-same_label : goal.returns-then-same_label
-returns-then-same_label c =
-    decided (labelled c.loop-entry.entry-index _ c.loop-entry-test.true (c.if-same_label.ensures.0 refl))
-
-pub loop-entry-preserved : goal.loop-entry-preserved
-loop-entry-preserved c =
-    unlabelled_more c.args.all.now c.args.label.now c.loop-entry.entry-index _ c.loop-entry-test.true c.loop-entry.invariant
-    (refuted c.if-same_label.ensures)
 
 pub returns : goal.returns
 returns c =
-    undecided (unlabelled_all c.args.all.now c.args.label.now c.loop-entry.entry-index c.loop-entry-test.false c.loop-entry.invariant)
+    labelled_decides c.args.all.now c.args.label.now c.any.result
+    (cases_from_any _ _ _ (λ (e : Entry). e.label ≡ c.args.label.now) (λ (e : Entry). e.label ≡ c.args.label.now → ⊥) c.any.ensures.ran (YieldsList-from_slice c.args.all.now cc)
+    (λ x q k. search (rules, tests)) (λ x q k. search (rules, tests)))

@@ -15,7 +15,7 @@ fill_label-label-requires c =
     All-get_or (λ (e : Entry). placed_label e.label ≡ true) c.args.entries.now c.loop-entry.entry-index _ c.loop-entry-test.true c.requires.1
 
 pub loop-entry-init : goal.loop-entry-init
-loop-entry-init c = (ap (map entry) c.new-filled.ensures, subst Placed (sym c.new-filled.ensures) tt)
+loop-entry-init c = (ap (map entry) c.no_entries-filled.ensures, subst Placed (sym c.no_entries-filled.ensures) tt)
 
 pub loop-entry-preserved : goal.loop-entry-preserved
 loop-entry-preserved c =

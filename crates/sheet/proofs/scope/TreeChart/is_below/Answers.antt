@@ -2,7 +2,7 @@ use Rattle.std.proofs.Common.{Some, sym, refl, ap, ◌∙◌}
 use Rattle.std.proofs.lemmas.Bool.{false≢true}
 use Rattle.sheet.specs.Scope.Over.{nearest, beyond}
 use Rattle.sheet.proofs.Scoped.{over_parent, over_none}
-use Rattle.sheet.proofs.scope.is_below.Goals as goal
+use Rattle.sheet.proofs.scope.TreeChart.is_below.Goals as goal
 
 pub returns-then-parent-b : goal.returns-then-parent-b
 returns-then-parent-b c =
@@ -10,7 +10,7 @@ returns-then-parent-b c =
     (λ _. c.loop-parent.invariant.1 (nearest e), λ _. refl)
 
 pub loop-parent-smaller : goal.loop-parent-smaller
-loop-parent-smaller c = c.requires _ _ (sym c.in-Some.ensures)
+loop-parent-smaller c = c.args.self.now.falls _ _ (sym c.in-Some.ensures)
 
 pub loop-parent-preserved : goal.loop-parent-preserved
 loop-parent-preserved c =
