@@ -89,6 +89,7 @@ impl<'a, C: Counting> Work<'a, C> {
         ensures { (A : ℕ → ℕ) → Amounts (C.Counting.operations self.now.counting.now) self.now.nodes.now self.now.rows.now label.now A → (n : ℕ) → slice_index result n ≡ A n }
     {
         let mut amounts = [0; 1024];
+        // By numbers: what is written at a node's number is made of what stands at its children's.
         for n in (0..self.nodes.len()).rev() {
             amounts[n] = self.node_amount(n, label, &amounts);
         }

@@ -60,10 +60,10 @@ fn row_of_entry(names: &Tuple<u8>, entry: &Entry) -> Row
 fn type_of(tables: &Tables, name: u8) -> usize
     ensures { result ≡ slice_index_or (elements tables.now.names) name (length (elements tables.now.types)) }
 {
-    match tables.names.as_slice().get(name as usize) {
-        Some(number) => *number as usize,
-        None => tables.types.len(),
-    }
+    let names = tables.names.as_slice();
+    names
+        .get(usize::from(name))
+        .map_or(tables.types.len(), |number| usize::from(*number))
 }
 
 /// The entries of what a message on a channel carries.
@@ -106,10 +106,8 @@ fn entry_rows(all: &[Entry], names: &Tuple<u8>) -> [Row; 8]
 fn entry_at(all: &[Entry], names: &Tuple<u8>, j: usize) -> Row
     ensures { result ≡ slice_index_or (map (entry_row (parts names.now)) all.now) j blank }
 {
-    match all.get(j) {
-        Some(entry) => row_of_entry(names, entry),
-        None => blank_row(),
-    }
+    all.get(j)
+        .map_or(blank_row(), |entry| row_of_entry(names, entry))
 }
 
 /// Writes the rows of all nodes.

@@ -1,14 +1,13 @@
 -- Free names by the chart, and the public type.
-use Rattle.std.proofs.Common.{◌≡◌, ℕ, ◌<◌, ◌≤◌, Bool, true, false, not, ◌&&◌, ltb, List, length, get_or, is_some, Decides, Option, sym, refl, ap, ◌∙◌, subst, arith}
-use Rattle.std.proofs.lemmas.Bool.{both_ways, lt-ltb, le-ltb, and_parts, and_from}
-use Rattle.calculus.specs.Scopes.{in_scope}
+use Rattle.std.proofs.Common.{◌≡◌, ℕ, ◌<◌, Bool, true, false, not, ◌&&◌, ltb, length, is_some, Decides, Option, sym, refl, ap, ◌∙◌, arith}
+use Rattle.std.proofs.lemmas.Bool.{lt-ltb}
 use Rattle.calculus.specs.Types as calculus
 use Rattle.tables.specs.Elements.{elements}
 use Rattle.tables.specs.declared.tables.SheetType.{SheetType}
 use Rattle.tables.specs.declared.tables.SheetType.TheVariants.{Pure, Public, Channel}
 use Rattle.tables.specs.declared.tables.Tables.{Tables}
 use Rattle.meaning.specs.Scopes.{bound, free, binder_of}
-use Rattle.meaning.specs.Types.{form, type_within, types_of}
+use Rattle.meaning.specs.Types.{form}
 use Rattle.names.proofs.Charting.{binder_bound}
 
 not_twice : (r : Bool) → not (not r) ≡ r

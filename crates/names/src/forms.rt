@@ -82,6 +82,7 @@ impl<'a> Inside<'a> {
         {
             return false;
         }
+        // By places: as many arguments come before a component as its place says.
         for place in 0..inner.count() {
             let component = inner.get(place).unwrap() as usize;
             if !self.pushed(place).is_formed(types, levels - 1, component) {

@@ -29,10 +29,10 @@ impl<'a> Charted<'a> {
     pub(crate) fn type_number(&self, x: usize) -> usize
         ensures { result ≡ slice_index_or (elements self.now.tables.now.names) x (length (elements self.now.tables.now.types)) }
     {
-        match self.tables.names.as_slice().get(x) {
-            Some(number) => *number as usize,
-            None => self.tables.types.len(),
-        }
+        let names = self.tables.names.as_slice();
+        names
+            .get(x)
+            .map_or(self.tables.types.len(), |number| usize::from(*number))
     }
 
     /// Whether name `x` is public, if it is free.

@@ -30,6 +30,7 @@ fn mark_name(name: Option<u8>, marks: &mut [bool])
 fn mark(names: &Tuple<u8>, count: usize, marks: &mut [bool])
     ensures { (y : ℕ) → y < length marks.old → slice_index_or marks.new y false ≡ (member y (take count (parts names.now)) || slice_index_or marks.old y false) }
 {
+    // By places: what a closure is given of a tuple's things it can only look at, and this writes.
     for i in 0..count {
         mark_name(names.get(i), marks);
     }

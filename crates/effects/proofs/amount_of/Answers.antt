@@ -1,10 +1,7 @@
-use Rattle.std.proofs.Common.{replicate, ap, ◌∙◌, arith}
+use Rattle.std.proofs.Common.{replicate, ap, ◌∙◌}
 use Rattle.effects.specs.Rows.{blank}
 use Rattle.effects.proofs.Sheets.{amounts_same}
 use Rattle.effects.proofs.amount_of.Goals as goal
-
-pub new-requires : goal.new-requires
-new-requires g c = omega (arith, c.tables-tables.ensures.sound.limited.nodes, c.if-rows-lt-ENOUGH.false, c.prepare.auto.rows)
 
 pub returns : goal.returns
 returns g c =

@@ -1,4 +1,4 @@
-use Rattle.std.proofs.Common.{ℕ, List, length, replicate, Some, None, sym, ap, ◌∙◌, subst, arith}
+use Rattle.std.proofs.Common.{ℕ, List, length, replicate, Some, None, sym, ap, ◌∙◌, subst}
 use Rattle.fault.specs.declared.fault.Fault.{Fault}
 use Rattle.fault.specs.declared.label.Label.{Label}
 use Rattle.tables.specs.Elements.{elements}
@@ -11,9 +11,6 @@ use Rattle.effects.specs.Rows.{blank}
 use Rattle.effects.proofs.Sheets.{amounts_same}
 use Rattle.effects.proofs.Telling.{few_told, none_told, found_told, first_same}
 use Rattle.effects.proofs.judge_effects.Goals as goal
-
-pub new-requires : goal.new-requires
-new-requires g c = omega (arith, c.tables-tables.ensures.sound.limited.nodes, c.if-rows-lt-ENOUGH.false, c.prepare.auto.rows)
 
 pub returns-then-rows-lt-ENOUGH : goal.returns-then-rows-lt-ENOUGH
 returns-then-rows-lt-ENOUGH g c =

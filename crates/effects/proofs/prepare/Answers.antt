@@ -3,9 +3,6 @@ use Rattle.tables.specs.Elements.{elements}
 use Rattle.effects.proofs.Sheets.{opened_amounts}
 use Rattle.effects.proofs.prepare.Goals as goal
 
-pub fill_rows-requires : goal.fill_rows-requires
-fill_rows-requires g c = let few = c.tables.ensures.sound.limited.nodes in omega (arith, few, c.requires)
-
 pub returns : goal.returns
 returns g c =
     let s = c.args.sheet.now in

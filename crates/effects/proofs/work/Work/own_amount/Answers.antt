@@ -1,5 +1,4 @@
-use Rattle.std.proofs.Common.{◌≡◌, ◌≤◌, take, add-one, sym, ap, ◌∙◌, ap₂, subst, le_trans}
-use Rattle.std.proofs.lemmas.List.{take_all}
+use Rattle.std.proofs.Common.{take, add-one, sym, ap, ◌∙◌, ap₂, le_trans}
 use Rattle.calculus.specs.Joins.{join_over}
 use Rattle.effects.specs.Steps.{gives}
 use Rattle.meaning.proofs.Joining.{first_more, first_below}
@@ -16,10 +15,3 @@ loop-row-preserved g c fits =
     let more = ap₂ K.join (c.loop-row.invariant fits) c.amount_for.ensures ∙ first_more K W f xs i _ c.loop-row-test.true
     ∙ ap (λ k. join_over K (take k xs) f) (sym (add-one i)) in
     c.joined-sum.ensures (below_ceiling more (le_trans (first_below K W f xs _) fits)) ∙ more
-
-pub returns : goal.returns
-returns g c =
-    let K = g.C.Counting.operations c.args.self.now.counting.now in
-    let f = gives c.args.label.now in
-    subst (λ xs. join_over K xs f ≤ K.ceiling → c.loop-row.sum ≡ join_over K xs f) c.node_rows-rows.ensures
-    (λ fits. c.loop-row.invariant fits ∙ ap (λ xs. join_over K xs f) (take_all c.loop-row.row-index c.node_rows-rows.result.now c.loop-row-test.false))

@@ -1,13 +1,7 @@
 use Rattle.std.proofs.Common.{cond, ◌∷◌, sym, subst}
-use Rattle.std.proofs.lemmas.Bool.{eq-eqb, ne_eqb}
+use Rattle.std.proofs.lemmas.Bool.{ne_eqb}
 use Rattle.effects.specs.Found.{FirstIn}
 use Rattle.effects.proofs.work.Work.try_row.Goals as goal
-
-pub returns-then-row-eq0 : goal.returns-then-row-eq0
-returns-then-row-eq0 g c A a S b =
-    let r = c.args.row.now in
-    subst (λ t. FirstIn (g.C.Counting.operations c.args.self.now.counting.now) c.args.self.now.nodes.now A (cond t S (r.label ∷ S)) c.args.best)
-    (sym (eq-eqb r.amount 0 c.if-row-eq0.true)) b
 
 pub returns-else-row-eq0 : goal.returns-else-row-eq0
 returns-else-row-eq0 g c A a S b =

@@ -1,4 +1,4 @@
-use Rattle.std.proofs.Common.{replicate, arith}
+use Rattle.std.proofs.Common.{replicate}
 use Rattle.names.proofs.Forming.{no_counts, well_tested}
 use Rattle.names.proofs.charted.Charted.is_well_formed.Goals as goal
 

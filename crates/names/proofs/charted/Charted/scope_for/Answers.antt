@@ -5,7 +5,7 @@ use Rattle.sheet.specs.Tree.{node_at}
 use Rattle.meaning.specs.Scopes.{earlier}
 use Rattle.names.specs.Marks.{marked}
 use Rattle.names.proofs.Charting.{binder_within}
-use Rattle.names.proofs.Climbing.{scope_unbound, scope_bound}
+use Rattle.names.proofs.Climbing.{scope_bound}
 use Rattle.names.proofs.charted.Charted.scope_for.Goals as goal
 
 pub scope_at-marks-requires : goal.scope_at-marks-requires
@@ -26,4 +26,3 @@ returns c =
     c.scope_at-marks.ensures
     (c.mark.auto.marks ∙ c.scope_at-marks.ensures.size)
     (λ y l. c.mark.ensures y (omega (arith, c.scope_at-marks.ensures.size)) ∙ ap (λ zs. member y zs || marked marks y) names)
-

@@ -7,7 +7,7 @@ use Rattle.sheet.specs.Types.{type_at}
 use Rattle.sheet.proofs.Nesting.{nth_within}
 use Rattle.meaning.specs.Types.{type_within}
 use Rattle.names.specs.Marks.{marked, outer}
-use Rattle.names.proofs.Forming.{holds, fails, pushed_outer, formed, formed_entries, formed_components, formed_none, entries_tested, component_tested, component_at}
+use Rattle.names.proofs.Forming.{holds, fails, pushed_outer, formed, formed_entries, formed_components, entries_tested, component_tested, component_at}
 use Rattle.names.proofs.forms.Inside.+is_formed.Goals as goal
 
 pub returns-then-not-entries_fit : goal.returns-then-not-entries_fit
