@@ -11,8 +11,8 @@ mod spelling;
 #[cfg(test)]
 mod tests;
 
-use crate::spelling::bytes_of;
-use lines::line_for;
+use crate::spelling::{SpellError, bytes_of};
+use lines::line_of;
 use std::alloc::{AllocError, Global};
 use std::io;
 use std::io::{BufRead, BufReader};
@@ -35,12 +35,13 @@ fn answer(heap: Global, text: &str) -> Result<String, AllocError> {
     let Some((name, tokens)) = text.split_once(':') else {
         return malformed(heap, text);
     };
-    match bytes_of(heap, tokens)? {
-        Some(bytes) => {
-            let line = line_for(heap, bytes.as_slice())?;
+    match bytes_of(heap, tokens) {
+        Ok(bytes) => {
+            let line = line_of(bytes.as_slice());
             format!(in heap; "{name}: {line}")
         }
-        None => malformed(heap, name),
+        Err(SpellError::OutOfMemory) => Err(AllocError),
+        Err(SpellError::Malformed | SpellError::TooLong) => malformed(heap, name),
     }
 }
 
