@@ -10,10 +10,11 @@ use Rattle.std.specs.declared.str.Split.{Split}
 use Rattle.std.specs.Str.Pattern.{FindsChar}
 use Rattle.cases.specs.Spelling.{is_space, is_star, often, piece, times, token_bytes, tokens_bytes, spelled}
 
+-- the bytes of a token, from its digits and how often they stand
 pub token_is : (token digits bytes : List ℕ) (n : ℕ) → digits ≡ before_first is_star token → often token ≡ Some n → piece digits ≡ Some bytes → token_bytes token ≡ Some (repeat n bytes)
 token_is token digits bytes n d o p = ap (λ ds. times (piece ds) (often token)) (sym d) ∙ ap (λ m. times (piece digits) m) o ∙ ap (λ bs. times bs (Some n)) p
 
-pub length_repeat : (n : ℕ) (xs : List ℕ) → length (repeat n xs) ≡ n * length xs
+length_repeat : (n : ℕ) (xs : List ℕ) → length (repeat n xs) ≡ n * length xs
 length_repeat zero xs = omega arith
 length_repeat (suc n) xs = omega (arith, length-append xs (repeat n xs), length_repeat n xs)
 
@@ -24,6 +25,7 @@ over n l m room xs e f h = let p = ap (λ k. k * n) e ∙ mul_comm (length xs) n
 pub within : (n l m room v : ℕ) (xs : List ℕ) → l ≡ length xs → m ≡ min (l * n) (2 ^ 64 - 1) → m ≤ room → v ≡ n * length xs → v < 2 ^ 64 → v ≤ room
 within n l m room v xs e f h g b = let p = ap (λ k. k * n) e ∙ mul_comm (length xs) n in omega (arith, p, f, h, g, b)
 
+-- a case that is not empty, with no space in front
 pub unspaced : (text : List ℕ) → 0 < length text → ((rest : List ℕ) → text ≢ 32 ∷ rest) → spelled text ≡ None
 unspaced [] l h = absurd (omega (arith, l))
 unspaced (c ∷ text) l h = cond_both (eqb c 32) (tokens_bytes (slice_split is_space text)) None (λ o. o ≡ None) (λ e. absurd (h text (ap (λ b. b ∷ text) (eqb-true c 32 e)))) (λ e. refl)
@@ -61,35 +63,38 @@ at_first text rest bytes it e b y = record {
   makes = ap spelled e ∙ sym (append_none_before (tokens_bytes (slice_split is_space rest))) ∙ ap (λ bs. option_append (Some bs) (tokens_bytes (slice_split is_space rest))) (sym b);
 }
 
+-- the next token, and those behind it
+abbrev Next : (text bytes x : List ℕ) → Split ℕ → Type 0
+Next text bytes x j = (ts : List (List ℕ)) × Yields j ts × (spelled text ≡ option_append (Some bytes) (option_append (token_bytes x) (tokens_bytes ts)))
+
 module _ (text bytes : List ℕ) (it : Split ℕ) where
-  at_end_from : (left : List (List ℕ)) → Yields it left → spelled text ≡ option_append (Some bytes) (tokens_bytes left) → (j : Split ℕ) → Steps it None j → spelled text ≡ Some bytes
-  at_end_from [] y m j k = m ∙ ap Some (append-nil bytes)
-  at_end_from (t ∷ ts) y m j k = absurd (y.0 j k)
+  end_from : (left : List (List ℕ)) → Yields it left → spelled text ≡ option_append (Some bytes) (tokens_bytes left) → (j : Split ℕ) → Steps it None j → spelled text ≡ Some bytes
+  end_from [] y m j k = m ∙ ap Some (append-nil bytes)
+  end_from (t ∷ ts) y m j k = absurd (y.0 j k)
 
-  pub at_end : SpelledSoFar text bytes it → (j : Split ℕ) → Steps it None j → spelled text ≡ Some bytes
-  at_end s j k = at_end_from s.left s.yields s.makes j k
-
-  -- the next token, and what is left behind it
-  abbrev pub Next : List ℕ → Split ℕ → Type 0
-  Next x j = (ts : List (List ℕ)) × Yields j ts × (spelled text ≡ option_append (Some bytes) (option_append (token_bytes x) (tokens_bytes ts)))
-
-  next_from : (left : List (List ℕ)) → Yields it left → spelled text ≡ option_append (Some bytes) (tokens_bytes left) → (x : Bor (List ℕ)) (j : Split ℕ) → Steps it (Some x) j → Next x.now j
+  next_from : (left : List (List ℕ)) → Yields it left → spelled text ≡ option_append (Some bytes) (tokens_bytes left) → (x : Bor (List ℕ)) (j : Split ℕ) → Steps it (Some x) j → Next text bytes x.now j
   next_from [] y m x j k = absurd (y x j k)
   next_from (t ∷ ts) y m x j k = (ts, (y.1 x j k).1, m ∙ ap (λ w. option_append (Some bytes) (option_append (token_bytes w) (tokens_bytes ts))) (sym (y.1 x j k).0))
 
-  pub next : SpelledSoFar text bytes it → (x : Bor (List ℕ)) (j : Split ℕ) → Steps it (Some x) j → Next x.now j
-  next s x j k = next_from s.left s.yields s.makes x j k
+module _ {text bytes : List ℕ} {it : Split ℕ} (s : SpelledSoFar text bytes it) where
+  -- no token is left, so that the bytes so far are all
+  pub at_end : (j : Split ℕ) → Steps it None j → spelled text ≡ Some bytes
+  at_end j k = end_from text bytes it s.left s.yields s.makes j k
 
-  module _ (x : List ℕ) (j : Split ℕ) (n : Next x j) where
-    pub goes_on : (more new : List ℕ) → token_bytes x ≡ Some more → new ≡ bytes ++ more → SpelledSoFar text new j
+  -- x is the next token: it has more bytes, or none, or too many
+  module _ (x : Bor (List ℕ)) (j : Split ℕ) (k : Steps it (Some x) j) where
+    next : Next text bytes x.now j
+    next = next_from text bytes it s.left s.yields s.makes x j k
+
+    pub goes_on : (more new : List ℕ) → token_bytes x.now ≡ Some more → new ≡ bytes ++ more → SpelledSoFar text new j
     goes_on more new e a = record {
-      left = n.0;
-      yields = n.1;
-      makes = n.2 ∙ ap (λ o. option_append (Some bytes) (option_append o (tokens_bytes n.0))) e ∙ append_further bytes more (tokens_bytes n.0) ∙ ap (λ w. option_append (Some w) (tokens_bytes n.0)) (sym a);
+      left = next.0;
+      yields = next.1;
+      makes = next.2 ∙ ap (λ o. option_append (Some bytes) (option_append o (tokens_bytes next.0))) e ∙ append_further bytes more (tokens_bytes next.0) ∙ ap (λ w. option_append (Some w) (tokens_bytes next.0)) (sym a);
     }
 
-    pub none_spelled : token_bytes x ≡ None → spelled text ≡ None
-    none_spelled e = n.2 ∙ ap (λ o. option_append (Some bytes) (option_append o (tokens_bytes n.0))) e
+    pub none_spelled : token_bytes x.now ≡ None → spelled text ≡ None
+    none_spelled e = next.2 ∙ ap (λ o. option_append (Some bytes) (option_append o (tokens_bytes next.0))) e
 
-    pub long_spelled : (room : ℕ) → 1200000 ≤ length bytes + room → IfSome (token_bytes x) (λ more. room < length more) → IfSome (spelled text) (λ all. 1200000 < length all)
-    long_spelled room l h = subst (λ o. IfSome o (λ all. 1200000 < length all)) (sym n.2) (append_long bytes room (token_bytes x) (tokens_bytes n.0) l h)
+    pub long_spelled : (room : ℕ) → 1200000 ≤ length bytes + room → IfSome (token_bytes x.now) (λ more. room < length more) → IfSome (spelled text) (λ all. 1200000 < length all)
+    long_spelled room l h = subst (λ o. IfSome o (λ all. 1200000 < length all)) (sym next.2) (append_long bytes room (token_bytes x.now) (tokens_bytes next.0) l h)

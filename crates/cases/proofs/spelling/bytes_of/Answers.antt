@@ -3,7 +3,7 @@ use Rattle.std.proofs.lemmas.Iterator.Splits.{YieldsList-from_str_split}
 use Rattle.std.proofs.lemmas.Str.Ascii.{encode_ascii}
 use Rattle.std.proofs.lemmas.Str.Pattern.{strip_prefix_char}
 use Rattle.std.specs.Str.Iter.{split_text, split_has_more, split_pattern}
-use Rattle.cases.proofs.Tokens.{unspaced, at_first, at_end, next, goes_on, none_spelled, long_spelled}
+use Rattle.cases.proofs.Tokens.{unspaced, at_first, at_end, goes_on, none_spelled, long_spelled}
 use Rattle.cases.proofs.spelling.bytes_of.Goals as goal
 
 pub returns-in_default-clause-malformed : goal.returns-in_default-clause-malformed
@@ -18,21 +18,16 @@ loop-token-init c =
     (omega arith, at_first c.args.text.now rest _ c.into_iter-token-iterator.result e c.new-bytes.ensures.items y.runs)
 
 pub returns-in_err-more-clause-malformed : goal.returns-in_err-more-clause-malformed
-returns-in_err-more-clause-malformed c =
-    let n = next c.args.text.now c.loop-token.bytes.items c.loop-token.token-iterator c.loop-token.invariant.1 c.in-Some-token.token c.next.new.self c.in-Some-token.ensures.steps in
-    λ e. none_spelled c.args.text.now c.loop-token.bytes.items c.loop-token.token-iterator c.in-Some-token.token.now c.next.new.self n (search rules)
+returns-in_err-more-clause-malformed c = λ e. none_spelled c.loop-token.invariant.1 c.in-Some-token.token c.next.new.self c.in-Some-token.ensures.steps (search rules)
 
 pub returns-in_err-more-clause-too_long : goal.returns-in_err-more-clause-too_long
-returns-in_err-more-clause-too_long c =
-    let n = next c.args.text.now c.loop-token.bytes.items c.loop-token.token-iterator c.loop-token.invariant.1 c.in-Some-token.token c.next.new.self c.in-Some-token.ensures.steps in
-    λ e. long_spelled c.args.text.now c.loop-token.bytes.items c.loop-token.token-iterator c.in-Some-token.token.now c.next.new.self n (1200000 - c.len.result) (omega (arith, c.len.ensures)) (search rules)
+returns-in_err-more-clause-too_long c = λ e. long_spelled c.loop-token.invariant.1 c.in-Some-token.token c.next.new.self c.in-Some-token.ensures.steps (1200000 - c.len.result) (omega (arith, c.len.ensures)) (search rules)
 
 pub loop-token-preserved : goal.loop-token-preserved
-loop-token-preserved c =
-    let n = next c.args.text.now c.loop-token.bytes.items c.loop-token.token-iterator c.loop-token.invariant.1 c.in-Some-token.token c.next.new.self c.in-Some-token.ensures.steps in (
-      search rules,
-      goes_on c.args.text.now c.loop-token.bytes.items c.loop-token.token-iterator c.in-Some-token.token.now c.next.new.self n c.in_ok-more.more.items c.extend_from_slice.new.self.items c.in_ok-more.ensures.ok.0 (search rules),
-    )
+loop-token-preserved c = (
+  search rules,
+  goes_on c.loop-token.invariant.1 c.in-Some-token.token c.next.new.self c.in-Some-token.ensures.steps c.in_ok-more.more.items c.extend_from_slice.new.self.items c.in_ok-more.ensures.ok.0 (search rules),
+)
 
 pub returns-clause-ok : goal.returns-clause-ok
-returns-clause-ok c = (at_end c.args.text.now c.loop-token.bytes.items c.loop-token.token-iterator c.loop-token.invariant.1 c.next.new.self c.in-None.ensures.steps, c.loop-token.invariant.0)
+returns-clause-ok c = (at_end c.loop-token.invariant.1 c.next.new.self c.in-None.ensures.steps, c.loop-token.invariant.0)
