@@ -5,14 +5,15 @@
 //! with `#` are comments.
 #![tactic(auto)]
 
-ghost use Rattle.std.specs.Prelude.{◌≡◌, ◌++◌, IfOk, string_bytes, codes};
+ghost use Rattle.std.specs.Prelude.{◌≡◌, IfOk, string_bytes};
+ghost use Rattle.cases.specs.Printed.{CasePrinted, Printed, is_comment, malformed};
 
 mod spelling;
 #[cfg(test)]
 mod tests;
 
-use crate::spelling::bytes_of;
-use lines::line_for;
+use crate::spelling::{SpellError, bytes_of};
+use lines::line_of;
 use std::alloc::{AllocError, Global};
 use std::io;
 use std::io::{BufRead, BufReader};
@@ -28,25 +29,42 @@ fn main(rt: HostRuntime) -> io::Result<()> {
 }
 
 /// What is printed for a line of the input: nothing for a comment, else the case's name and its line.
-fn answer(heap: Global, text: &str) -> Result<String, AllocError> {
-    if text.is_empty() || text.starts_with('#') {
+fn answer(heap: Global, text: &str) -> Result<String, AllocError>
+    ensures { IfOk result (λ s. Printed text.now (string_bytes s)) }
+{
+    if is_comment(text) {
         return Ok(String::new(heap));
     }
-    let Some((name, tokens)) = text.split_once(':') else {
-        return malformed(heap, text);
-    };
-    match bytes_of(heap, tokens)? {
-        Some(bytes) => {
-            let line = line_for(heap, bytes.as_slice())?;
+    match text.split_once(':') {
+        Some((name, tokens)) => named(heap, name, tokens),
+        None => malformed(heap, text),
+    }
+}
+
+/// Whether a line of the input is a comment.
+fn is_comment(text: &str) -> bool
+    ensures { result ≡ is_comment text.now }
+{
+    text.is_empty() || text.starts_with('#')
+}
+
+/// What is printed for a case with this name and these tokens.
+fn named(heap: Global, name: &str, tokens: &str) -> Result<String, AllocError>
+    ensures { IfOk result (λ s. CasePrinted name.now tokens.now (string_bytes s)) }
+{
+    match bytes_of(heap, tokens) {
+        Ok(bytes) => {
+            let line = line_of(bytes.as_slice());
             format!(in heap; "{name}: {line}")
         }
-        None => malformed(heap, name),
+        Err(SpellError::OutOfMemory) => Err(AllocError),
+        Err(SpellError::Malformed | SpellError::TooLong) => malformed(heap, name),
     }
 }
 
 /// The line for a case that spells no bytes.
 fn malformed(heap: Global, name: &str) -> Result<String, AllocError>
-    ensures { IfOk result (λ s. string_bytes s ≡ name.now ++ codes ": malformed\n") }
+    ensures { IfOk result (λ s. string_bytes s ≡ malformed name.now) }
 {
     format!(in heap; "{name}: malformed\n")
 }

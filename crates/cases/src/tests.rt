@@ -8,7 +8,7 @@ use std::test::Fail;
 /// Records are counted past 65,536, which no input of the bench can have.
 #[test]
 fn many_records(rt: HostRuntime) -> Result<(), Fail> {
-    let bytes = bytes_of(rt.alloc(), " 10*70000 00")?.ok_or("malformed")?;
+    let bytes = bytes_of(rt.alloc(), " 10*70000 00")?;
     assert_eq!(rt; bytes.len(), 70001);
     let mut place = OpenedSheet::new(Parts::whole());
     assert!(rt;
@@ -24,7 +24,7 @@ fn many_records(rt: HostRuntime) -> Result<(), Fail> {
 #[test]
 fn tokens(rt: HostRuntime) -> Result<(), Fail> {
     let heap = rt.alloc();
-    let bytes = bytes_of(heap, " 09 Af*2 0102*0 1020*3")?.ok_or("malformed")?;
+    let bytes = bytes_of(heap, " 09 Af*2 0102*0 1020*3")?;
     let spelled = [9, 175, 175, 16, 32, 16, 32, 16, 32];
     assert!(rt; bytes.as_slice() == &spelled[0..9]);
     Ok(())

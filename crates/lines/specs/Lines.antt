@@ -6,6 +6,8 @@ use Rattle.fault.specs.declared.fault.Fault.{Fault}
 use Rattle.fault.specs.declared.fault.Layer.{Layer}
 use Rattle.fault.specs.declared.fault.Layer.TheVariants.{Sheet, Judge, Run}
 use Rattle.fault.specs.declared.label.Label.{Label}
+use Rattle.lines.specs.declared.lines.Line.{Line}
+use Rattle.lines.specs.declared.lines.Line.TheVariants.{Opened, Refused}
 
 -- the word for a layer
 abbrev pub word : Layer → List ℕ
@@ -33,3 +35,8 @@ refused f =
 -- the line of a sheet that opens, with the count of its nodes
 abbrev pub opened : ℕ → List ℕ
 opened nodes = codes "OPEN " ++ (decimal nodes ++ codes "\n")
+
+-- what a line at hand prints
+abbrev pub text : Line → List ℕ
+text (Opened nodes) = opened nodes
+text (Refused f) = refused f

@@ -7,4 +7,5 @@ pub mod lines;
 #[cfg(test)]
 mod tests;
 
-pub use answer::{LIMIT, line_for};
+pub use answer::{LIMIT, line_for, line_of};
+pub use lines::Line;
