@@ -54,6 +54,6 @@ pub(crate) fn passed_of<C: Counting>(sheet: &OpenedSheet<C>) -> PassedSheet<C>
     ensures counting { result.sheet.counting ≡ sheet.now.counting }
     ensures tables { result.sheet.tables ≡ sheet.now.tables }
 {
-    let copy = OpenedSheet::of(sheet.counting(), *sheet.tables());
+    let copy = OpenedSheet::seal(sheet.counting(), *sheet.tables());
     PassedSheet { sheet: copy }
 }

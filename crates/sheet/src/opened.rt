@@ -23,11 +23,11 @@ impl<C: Counting> OpenedSheet<C> {
         ensures counting { result.counting ≡ counting }
         ensures tables { OneStop result.tables }
     {
-        OpenedSheet::of(counting, one_stop())
+        OpenedSheet::seal(counting, one_stop())
     }
 
     /// The opened sheet of tables that are sound by this counting.
-    pub fn of(counting: C, tables: Tables) -> OpenedSheet<C>
+    pub fn seal(counting: C, tables: Tables) -> OpenedSheet<C>
         requires { Sound (C.Counting.operations counting).largest tables }
         ensures counting { result.counting ≡ counting }
         ensures tables { result.tables ≡ tables }
@@ -81,6 +81,6 @@ pub fn open<C: Counting>(bytes: &[u8], place: &mut OpenedSheet<C>) -> Result<(),
 {
     let counting = place.counting;
     let tables = meant(bytes, basis_of(&counting))?;
-    *place = OpenedSheet::of(counting, tables);
+    *place = OpenedSheet::seal(counting, tables);
     Ok(())
 }

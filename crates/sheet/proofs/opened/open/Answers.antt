@@ -14,8 +14,8 @@ returns-in_err-tables-clause-one g c = one_way c.args.bytes.now
 
 pub returns-clause-meaning : goal.returns-clause-meaning
 returns-clause-meaning g c =
-    let held = subst (λ t. Means c.basis_of.result c.args.bytes.now (Ok t)) (sym c.of.ensures.tables) c.in_ok-tables.ensures in
-    subst (λ b. Means b c.args.bytes.now (Ok c.of.result.tables)) c.basis_of.ensures held
+    let held = subst (λ t. Means c.basis_of.result c.args.bytes.now (Ok t)) (sym c.seal.ensures.tables) c.in_ok-tables.ensures in
+    subst (λ b. Means b c.args.bytes.now (Ok c.seal.result.tables)) c.basis_of.ensures held
 
 pub returns-clause-one : goal.returns-clause-one
 returns-clause-one g c = one_way c.args.bytes.now

@@ -1,5 +1,5 @@
 use Rattle.sheet.proofs.Stops.{one_stop_sound}
 use Rattle.sheet.proofs.opened.OpenedSheet.new.Goals as goal
 
-pub of-requires : goal.of-requires
-of-requires g c = one_stop_sound c.one_stop.result c.one_stop.ensures _
+pub seal-requires : goal.seal-requires
+seal-requires g c = one_stop_sound c.one_stop.result c.one_stop.ensures _
