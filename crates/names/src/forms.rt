@@ -103,7 +103,11 @@ impl<'a> Charted<'a> {
             scope: &self.scope_for(x),
             counts: [0; 4],
         };
-        outermost.is_formed(self.tables.types.as_slice(), LEVELS, self.type_number(x))
+        outermost.is_formed(
+            self.tables.types.as_slice(),
+            LEVELS,
+            self.tables.type_number(x),
+        )
     }
 
     /// The first name whose type is not well formed in its scope, or none.

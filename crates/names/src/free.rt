@@ -25,22 +25,12 @@ impl<'a> Charted<'a> {
         x < self.tables.names.len() && self.chart.binder(x).is_none()
     }
 
-    /// The number of the type of name `x`; a number that no type has where there is no such name.
-    pub(crate) fn type_number(&self, x: usize) -> usize
-        ensures { result ≡ slice_index_or (elements self.now.tables.now.names) x (length (elements self.now.tables.now.types)) }
-    {
-        let names = self.tables.names.as_slice();
-        names
-            .get(x)
-            .map_or(self.tables.types.len(), |number| usize::from(*number))
-    }
-
     /// Whether name `x` is public, if it is free.
     fn is_public_if_free(&self, x: usize) -> bool
         requires { x < 64 }
         ensures { Decides result (in_scope (free self.now.tables.now) x ≡ true → types_of self.now.tables.now x ≡ public) }
     {
-        !self.is_free(x) || is_public_at(self.tables.types.as_slice(), self.type_number(x))
+        !self.is_free(x) || is_public_at(self.tables.types.as_slice(), self.tables.type_number(x))
     }
 
     /// The first free name that is not public, or none.
