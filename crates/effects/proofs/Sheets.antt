@@ -18,7 +18,7 @@ use Rattle.fault.specs.declared.label.Label.{Label}
 use Rattle.tables.specs.Channels.{entries}
 use Rattle.tables.specs.Elements.{elements}
 use Rattle.tables.specs.Encoding.{parts}
-use Rattle.tables.specs.declared.tables.Entry.{Entry}
+use Rattle.tables.specs.Shares.{Entry}
 use Rattle.tables.specs.declared.tables.Item.{Item}
 use Rattle.tables.specs.declared.tables.Node.{Node}
 use Rattle.tables.specs.declared.tables.Node.TheVariants.{Stop, Send, Receive, Both, Copy, New, Test, Begin, End}

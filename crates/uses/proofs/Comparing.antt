@@ -15,7 +15,7 @@ use Rattle.fault.specs.declared.items.Items.{Items}
 use Rattle.fault.specs.declared.items.Items.TheVariants.{One, Two, Three, Four}
 use Rattle.fault.specs.declared.label.Label as tables
 use Rattle.tables.specs.Range.{all}
-use Rattle.tables.specs.declared.tables.Entry.{Entry}
+use Rattle.tables.specs.Shares.{Entry}
 use Rattle.tables.specs.declared.tables.Item.{Item}
 use Rattle.tables.specs.declared.tables.Item.TheVariants.{Name, Index}
 use Rattle.meaning.specs.Labels.{label_of}

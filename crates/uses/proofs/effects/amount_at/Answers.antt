@@ -3,7 +3,7 @@ use Rattle.std.proofs.ByRecursion.{All-get_or}
 use Rattle.std.proofs.lemmas.List.{take_all, length-map}
 use Rattle.calculus.specs.Joins.{join_over}
 use Rattle.calculus.proofs.Joins.{over_map}
-use Rattle.tables.specs.declared.tables.Entry.{Entry}
+use Rattle.tables.specs.Shares.{Entry}
 use Rattle.meaning.specs.Labels.{label_of}
 use Rattle.meaning.specs.Types.{item, entry}
 use Rattle.meaning.proofs.Joining.{first_more, first_below, below_bound}
