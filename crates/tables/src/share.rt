@@ -1,5 +1,5 @@
 //! Shares: so much of a right, by the label that names it.
-ghost use Rattle.std.specs.Prelude.{◌≡◌};
+ghost use Rattle.tables.specs.Shares.{Gives};
 
 use fault::{Exact, Label};
 
@@ -13,8 +13,7 @@ pub struct Share<T> {
 impl<T: Exact> Share<T> {
     /// What it gives a label: its amount where it has this label, else nothing.
     pub fn given_to(&self, label: &Label<T>) -> u32
-        ensures own { self.now.label ≡ label.now → result ≡ self.now.amount }
-        ensures other { (self.now.label ≡ label.now → ⊥) → result ≡ 0 }
+        ensures { Gives label.now self.now result }
     {
         if self.label.is_same(label) {
             self.amount

@@ -19,8 +19,9 @@ use Rattle.tables.specs.Shares.{Entry}
 use Rattle.tables.specs.declared.tables.Item.{Item}
 use Rattle.tables.specs.declared.tables.Item.TheVariants.{Name, Index}
 use Rattle.meaning.specs.Labels.{label_of}
+use Rattle.meaning.specs.Shares.{GivesEach}
 use Rattle.meaning.specs.Types.{item, entry}
-use Rattle.uses.specs.Entries.{placed, placed_label, amount_for, Small, SameAmounts, SameEffects}
+use Rattle.uses.specs.Entries.{placed, placed_label, amount_for, Placed, Small, SameAmounts, SameEffects}
 
 -- items with positions from 1 mean different items
 item_injective : (a b : Item) → placed a ≡ true → placed b ≡ true → item a ≡ item b → a ≡ b
@@ -73,14 +74,19 @@ label_injective a b p q e =
     sym (of_list_list a a) ∙ ap (of_list a) lists ∙ of_list_list a b
 
 -- an entry gives its amount to its own label, and nothing to any other
-pub gives_own : (e : Entry) (l : tables.Label Item) → e.label ≡ l → amount_for (label_of item l.items) (entry e) ≡ e.amount
+gives_own : (e : Entry) (l : tables.Label Item) → e.label ≡ l → amount_for (label_of item l.items) (entry e) ≡ e.amount
 gives_own e l same = if_yes (decide (label_test item_test) (label_of item e.label.items) (label_of item l.items)) e.amount (ap (λ (m : tables.Label Item). label_of item m.items) same)
 
-pub gives_nothing : (e : Entry) (l : tables.Label Item) → placed_label e.label ≡ true → placed_label l ≡ true → (e.label ≡ l → ⊥)
+gives_nothing : (e : Entry) (l : tables.Label Item) → placed_label e.label ≡ true → placed_label l ≡ true → (e.label ≡ l → ⊥)
     → amount_for (label_of item l.items) (entry e) ≡ 0
 gives_nothing e l p q other =
     if_no (decide (label_test item_test) (label_of item e.label.items) (label_of item l.items)) e.amount
     (λ same. other (ap (λ xs. record { items = xs }) (label_injective e.label.items l.items p q same)))
+
+-- so of each entry the calculus says what it gives a label
+pub gives_each : (es : List Entry) (l : tables.Label Item) → Placed es → placed_label l ≡ true → GivesEach l es (λ e. amount_for (label_of item l.items) (entry e))
+gives_each [] l p q = tt
+gives_each (e ∷ es) l p q = ((gives_own e l, gives_nothing e l p.0 q), gives_each es l p.1 q)
 
 module _ (K : Operations) (W : Laws K) where
   each_small : (L : Label calculus.Item) (es : List calculus.Entry) → Small K es → Each≤ K.largest (map (amount_for L) es)
