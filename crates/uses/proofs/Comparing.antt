@@ -1,8 +1,8 @@
 -- Labels compared as the tables have them, and effects compared at the labels of their own entries.
-use Rattle.std.proofs.Common.{◌≡◌, ℕ, ◌+◌, ◌-◌, ◌<◌, ◌≤◌, true, ◌⊎◌, List, [], ◌∷◌, map, length, get_or, take, drop, sym, refl, ap, ◌∙◌, subst, ap₂, inl, inr, ⊎_elim, arith}
+use Rattle.std.proofs.Common.{◌≡◌, ℕ, ◌+◌, ◌-◌, ◌<◌, ◌≤◌, true, ◌⊎◌, List, [], ◌∷◌, map, length, get_or, take, sym, refl, ap, ◌∙◌, subst, ap₂, inl, inr, ⊎_elim, arith}
 use Rattle.std.specs.List.{AllByRecursion}
-use Rattle.std.proofs.ByRecursion.{All-drop, All-get_or, All-push}
-use Rattle.std.proofs.lemmas.List.{length-map, length-drop, drop_more, drop-map, get_or-map, map_more}
+use Rattle.std.proofs.ByRecursion.{All-get_or, All-push}
+use Rattle.std.proofs.lemmas.List.{length-map, get_or-map, map_more}
 use Rattle.std.proofs.lemmas.Bool.{and_parts, leb-true}
 use Rattle.calculus.specs.Countings.{Operations, Laws, Each≤}
 use Rattle.calculus.specs.Equality.{decide}
@@ -116,19 +116,6 @@ module _ (K : Operations) (W : Laws K) where
   pub agree_at : (a b es : List calculus.Entry) → SameEffects K a b → AllByRecursion (SameAmounts K a b) es
   agree_at a b [] h = tt
   agree_at a b (e ∷ es) h = (h e.label, agree_at a b es h)
-
-  -- one entry more in front
-  pub at_step : (es : List Entry) (L : Label calculus.Item) (k : ℕ) (d : Entry) → 0 < k → k ≤ length es →
-      entries_at K (map entry (drop (k - 1) es)) L ≡ K.join (amount_for L (entry (get_or es (k - 1) d))) (entries_at K (map entry (drop k es)) L)
-  at_step es L k d some within =
-      let e : k - 1 + 1 ≡ k = omega arith in
-      ap (λ xs. entries_at K (map entry xs) L) (drop_more es (k - 1) d (omega arith) ∙ ap (λ j. get_or es (k - 1) d ∷ drop j es) e)
-
-  -- no join on the way passes the ceiling
-  pub at_fits_from : (es : List Entry) (L : Label calculus.Item) (k : ℕ) → length es ≤ 8 → Small K (map entry es) → entries_at K (map entry (drop k es)) L ≤ K.ceiling
-  at_fits_from es L k few small =
-      at_fits L (map entry (drop k es)) (omega (arith, length-map (drop k es) entry, length-drop k es))
-      (subst (Small K) (drop-map entry k es) (All-drop (λ (e : calculus.Entry). e.amount ≤ K.largest) k (map entry es) small))
 
 -- what holds of each entry's meaning, at one entry, and up to one more
 pub meant_at : (P : calculus.Entry → Type 0) (es : List Entry) (i : ℕ) (d : Entry) → i < length es → AllByRecursion P (map entry es) → P (entry (get_or es i d))
