@@ -18,7 +18,7 @@ use Rattle.fault.specs.declared.label.Label.{Label}
 use Rattle.tables.specs.Channels.{entries}
 use Rattle.tables.specs.Elements.{elements}
 use Rattle.tables.specs.Encoding.{parts}
-use Rattle.tables.specs.declared.tables.Entry.{Entry}
+use Rattle.tables.specs.Shares.{Entry}
 use Rattle.tables.specs.declared.tables.Item.{Item}
 use Rattle.tables.specs.declared.tables.Node.{Node}
 use Rattle.tables.specs.declared.tables.Node.TheVariants.{Stop, Send, Receive, Both, Copy, New, Test, Begin, End}
@@ -38,9 +38,8 @@ use Rattle.meaning.proofs.Scopes.{tree_of}
 use Rattle.meaning.proofs.Sizes.{Inside}
 use Rattle.meaning.proofs.Steps.{by_steps}
 use Rattle.meaning.proofs.Unfolding.{process_unfolds}
-use Rattle.effects.specs.Rows.{blank, map_items, entry_row, carried, rows_of, Filled, places}
+use Rattle.effects.specs.Rows.{Row, blank, map_items, entry_row, carried, rows_of, Filled, places}
 use Rattle.effects.specs.Steps.{gives, own_at, step_by, Amounts}
-use Rattle.effects.specs.declared.row.Row.{Row}
 
 -- names put into an entry's label
 put_in : (ys : List ℕ) (xs : Items Item) → label_of (λ x. x) (map_items (λ i. named ys (item i)) xs) ≡ calculus.map_label (named ys) (label_of item xs)

@@ -7,8 +7,8 @@ use Rattle.fault.specs.declared.label.Label.{Label}
 use Rattle.tables.specs.declared.tables.Node.{Node}
 use Rattle.tables.specs.declared.tables.Node.TheVariants.{Stop, Send, Receive, Both, Copy, New, Test, Begin, End}
 use Rattle.sheet.specs.Tree.{node_at}
+use Rattle.effects.specs.Rows.{Row}
 use Rattle.effects.specs.Steps.{own_at, step_by, LaterChildren, Amounts}
-use Rattle.effects.specs.declared.row.Row.{Row}
 
 -- only the children count
 pub step_alike : (K : Operations) (n count own : ℕ) (f g : ℕ → ℕ) (x : Node) → LaterChildren n count x → ((c : ℕ) → n < c → f c ≡ g c) → step_by K own f x ≡ step_by K own g x

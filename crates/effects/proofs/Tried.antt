@@ -12,10 +12,9 @@ use Rattle.tables.specs.declared.tables.Node.TheVariants.{Stop, Send, Receive, B
 use Rattle.sheet.specs.Tree.{node_at}
 use Rattle.meaning.specs.Faults.{names_label}
 use Rattle.effects.specs.Found.{bad, fails, asks, with_row, brought, tried, FirstIn, FirstOf}
-use Rattle.effects.specs.Rows.{blank, places}
+use Rattle.effects.specs.Rows.{Row, blank, places}
 use Rattle.effects.specs.Steps.{gives, own_at, step_by, Amounts}
 use Rattle.effects.specs.declared.found.Found.{Found}
-use Rattle.effects.specs.declared.row.Row.{Row}
 use Rattle.effects.proofs.Naming.{labels_alike, gives_other}
 use Rattle.effects.proofs.Steps.{step_alike, amount_past}
 

@@ -8,9 +8,8 @@ use Rattle.tables.specs.declared.tables.Node.{Node}
 use Rattle.tables.specs.declared.tables.Node.TheVariants.{Stop, Send, Receive, Both, Copy, New, Test, Begin, End}
 use Rattle.sheet.specs.Scope.{member, binds}
 use Rattle.sheet.specs.Tree.{node_at}
-use Rattle.effects.specs.Rows.{places}
+use Rattle.effects.specs.Rows.{Row, places}
 use Rattle.effects.specs.declared.found.Found.{Found}
-use Rattle.effects.specs.declared.row.Row.{Row}
 
 -- one of the names stands in the list
 abbrev pub meets : List ℕ → List ℕ → Bool

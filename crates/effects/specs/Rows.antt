@@ -5,14 +5,18 @@ use Rattle.fault.specs.declared.items.Items.{Items}
 use Rattle.fault.specs.declared.items.Items.TheVariants.{One, Two, Three, Four}
 use Rattle.tables.specs.Channels.{entries}
 use Rattle.tables.specs.Encoding.{parts}
-use Rattle.tables.specs.declared.tables.Entry.{Entry}
+use Rattle.tables.specs.Shares.{Entry}
+use Rattle.tables.specs.declared.share.Share.{Share}
 use Rattle.tables.specs.declared.tables.Node.{Node}
 use Rattle.tables.specs.declared.tables.Node.TheVariants.{Stop, Send, Receive, Both, Copy, New, Test, Begin, End}
 use Rattle.tables.specs.declared.tables.SheetType.{SheetType}
 use Rattle.sheet.specs.Tree.{node_at}
 use Rattle.sheet.specs.Types.{type_at}
 use Rattle.meaning.specs.Types.{item}
-use Rattle.effects.specs.declared.row.Row.{Row}
+
+-- a work row: a share whose label has names
+abbrev pub Row : Type 0
+Row = Share ℕ
 
 -- a row of nothing
 abbrev pub blank : Row

@@ -9,8 +9,7 @@ use Rattle.tables.specs.declared.tables.Node.{Node}
 use Rattle.tables.specs.declared.tables.Node.TheVariants.{Stop, Send, Receive, Both, Copy, New, Test, Begin, End}
 use Rattle.sheet.specs.Tree.{children, node_at}
 use Rattle.meaning.specs.Faults.{names_label}
-use Rattle.effects.specs.Rows.{places}
-use Rattle.effects.specs.declared.row.Row.{Row}
+use Rattle.effects.specs.Rows.{Row, places}
 
 -- what a row gives a label
 abbrev pub gives : Label ℕ → Row → ℕ

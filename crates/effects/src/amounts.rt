@@ -2,33 +2,20 @@
 ghost use Rattle.std.specs.Prelude.{◌≡◌, ℕ, ◌*◌, ◌<◌, ◌≤◌, length, slice_index};
 ghost use Rattle.sheet.specs.Tree.{node_at};
 ghost use Rattle.effects.specs.Rows.{places};
-ghost use Rattle.effects.specs.Steps.{gives, own_at, step_by, Amounts};
+ghost use Rattle.effects.specs.Steps.{own_at, step_by, Amounts};
 
-use crate::row::Row;
+use crate::rows::Row;
 use crate::work::{ROWS, Work};
 use counting::Counting;
 use fault::Label;
+use meaning::joined_for;
 use tables::tables::Node;
-
-/// What a row gives a label.
-fn amount_for(row: &Row, label: &Label<u8>) -> u32
-    ensures { result ≡ gives label.now row.now }
-{
-    if row.label == *label { row.amount } else { 0 }
-}
 
 /// The amount of a node; 0 past the last.
 pub(crate) fn amount_in(amounts: &[u32; 1024], node: usize) -> u32
     ensures { result ≡ slice_index amounts.now node }
 {
     amounts.get(node).copied().unwrap_or(0)
-}
-
-/// Two amounts joined; 0 where that passes the ceiling.
-fn joined<C: Counting>(counting: &C, a: u32, b: u32) -> u32
-    ensures { (C.Counting.operations counting.now).join a b ≤ (C.Counting.operations counting.now).ceiling → result ≡ (C.Counting.operations counting.now).join a b }
-{
-    counting.join(a, b).unwrap_or(0)
 }
 
 impl<'a, C: Counting> Work<'a, C> {
@@ -45,12 +32,7 @@ impl<'a, C: Counting> Work<'a, C> {
         requires { n < length self.now.nodes.now }
         ensures { own_at (C.Counting.operations self.now.counting.now) self.now.rows.now label.now n ≤ (C.Counting.operations self.now.counting.now).ceiling → result ≡ own_at (C.Counting.operations self.now.counting.now) self.now.rows.now label.now n }
     {
-        let mut sum = 0;
-        let rows = self.node_rows(n);
-        for row in rows {
-            sum = joined(self.counting, sum, amount_for(row, label));
-        }
-        sum
+        joined_for(self.counting, self.node_rows(n), label)
     }
 
     /// The amount of node `n` at a label, from its rows and the amounts of its children.
@@ -67,11 +49,11 @@ impl<'a, C: Counting> Work<'a, C> {
             }
             Node::End { next, .. } => {
                 let own = self.own_amount(n, label);
-                joined(self.counting, amount_in(amounts, next as usize), own)
+                self.counting
+                    .join_or_zero(amount_in(amounts, next as usize), own)
             }
             Node::Both { first, second } => {
-                joined(
-                    self.counting,
+                self.counting.join_or_zero(
                     amount_in(amounts, first as usize),
                     amount_in(amounts, second as usize),
                 )

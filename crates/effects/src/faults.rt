@@ -11,7 +11,7 @@ ghost use Rattle.effects.specs.Steps.{Amounts};
 use crate::amounts::amount_in;
 use crate::found::{Found, better};
 use crate::labels::mentions_any;
-use crate::row::Row;
+use crate::rows::Row;
 use crate::work::Work;
 use counting::Counting;
 use fault::{Fault, Label};

@@ -23,15 +23,13 @@ mod amounts;
 mod faults;
 mod found;
 mod labels;
-mod row;
 mod rows;
 mod work;
 
-pub use row::Row;
-pub use rows::clear_rows;
+pub use rows::{Row, clear_rows};
 
 /// How many rows are enough for every sheet: eight for each of 1,024 nodes.
-const ENOUGH: usize = 8192;
+pub const ENOUGH: usize = 8192;
 
 /// The first fault of the effects, by the numbers 12 to 14; too few rows are 7. All rows are zero then.
 pub fn judge_effects<C: Counting>(sheet: &OpenedSheet<C>, rows: &mut [Row]) -> Result<(), Fault>

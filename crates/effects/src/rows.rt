@@ -6,13 +6,16 @@ ghost use Rattle.tables.specs.Encoding.{parts};
 ghost use Rattle.meaning.specs.Types.{item as item_of};
 ghost use Rattle.effects.specs.Rows.{blank, map_items, entry_row, carried, rows_of, Filled};
 
-use crate::row::Row;
 use crate::work::ROWS;
 use fault::{Items, Label};
 use sheet::types::entries_of;
 use std::array;
+use tables::Share;
 use tables::tables::{Entry, Item, Node, Tables};
 use tables::tuple::Tuple;
+
+/// A work row: so much for a label of names.
+pub type Row = Share<u8>;
 
 /// A row of nothing.
 fn blank_row() -> Row

@@ -10,7 +10,7 @@ use Rattle.fault.specs.declared.fault.Fault.{Fault}
 use Rattle.fault.specs.declared.fault.Fault.TheVariants.{WrongType, Escapes, NotCopyable, RootOwes}
 use Rattle.tables.specs.declared.table.Table.{Table}
 use Rattle.tables.specs.declared.tuple.Tuple.{Tuple}
-use Rattle.tables.specs.declared.tables.Entry.{Entry}
+use Rattle.tables.specs.Shares.{Entry}
 use Rattle.tables.specs.declared.tables.Item.{Item}
 use Rattle.tables.specs.declared.tables.Item.TheVariants.{Name, Index}
 use Rattle.tables.specs.declared.tables.Node.{Node}

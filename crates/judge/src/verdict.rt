@@ -15,14 +15,11 @@ ghost use Rattle.judge.specs.Typed.{OfTypes, Typed};
 
 use crate::passed::{PassedSheet, passed_of};
 use counting::Counting;
-use effects::{Row, amount_of, clear_rows, judge_effects};
+use effects::{ENOUGH, Row, amount_of, clear_rows, judge_effects};
 use fault::{Fault, Label};
 use names::{first_free_not_public, first_ill_formed};
 use sheet::OpenedSheet;
 use uses::{first_bad_channel, first_wrong_type};
-
-/// How many work rows judging and telling ask for: eight for each of 1,024 nodes.
-const ROWS: usize = 8192;
 
 /// The first fault of names and of the uses of channels, by the numbers 8 to 11, or none.
 pub fn judge_types<C: Counting>(sheet: &OpenedSheet<C>) -> Result<(), Fault>
@@ -51,7 +48,7 @@ fn first_fault<C: Counting>(sheet: &OpenedSheet<C>, rows: &mut [Row]) -> Result<
     ensures zero { rows.new ≡ replicate (length rows.old) blank }
 {
     clear_rows(rows);
-    if rows.len() < ROWS {
+    if rows.len() < ENOUGH {
         return Err(Fault::FewRows);
     }
     judge_types(sheet)?;

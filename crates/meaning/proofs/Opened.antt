@@ -12,7 +12,7 @@ use Rattle.tables.specs.Channels.{entries}
 use Rattle.tables.specs.Elements.{elements}
 use Rattle.tables.specs.Encoding.{parts}
 use Rattle.tables.specs.Range.{all, all_from, below, item_fits, entry_fits, type_fits, node_fits}
-use Rattle.tables.specs.declared.tables.Entry.{Entry}
+use Rattle.tables.specs.Shares.{Entry}
 use Rattle.tables.specs.declared.tables.Node.{Node}
 use Rattle.tables.specs.declared.tables.Node.TheVariants.{Stop, Send, Receive, Both, Copy, New, Test, Begin, End}
 use Rattle.tables.specs.declared.tables.SheetType.{SheetType}

@@ -1,4 +1,5 @@
 pub mod Labels
+pub mod Shares
 pub mod Types
 pub mod Processes
 pub mod Scopes

@@ -15,6 +15,10 @@ ghost use Rattle.meaning.specs.Types.{types_of};
 use counting::Counting;
 use sheet::OpenedSheet;
 
+mod shares;
+
+pub use shares::joined_for;
+
 /// How many nodes an opened sheet has. The process at each is the node with the processes at its children; in the
 /// whole process every name is in scope where it is used and fresh where it is bound; it has no more nodes than the
 /// sheet, and the types of its names have few and small entries, so that no join passes the ceiling. So what is left to

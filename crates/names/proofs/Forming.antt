@@ -11,7 +11,7 @@ use Rattle.calculus.specs.Scopes.{Scope, in_scope, push, WellFormedItem, WellFor
 use Rattle.calculus.specs.Types as calculus
 use Rattle.tables.specs.Channels.{components, entries}
 use Rattle.tables.specs.Elements.{elements}
-use Rattle.tables.specs.declared.tables.Entry.{Entry}
+use Rattle.tables.specs.Shares.{Entry}
 use Rattle.tables.specs.declared.tables.SheetType.{SheetType}
 use Rattle.tables.specs.declared.tables.SheetType.TheVariants.{Pure, Public, Channel}
 use Rattle.tables.specs.declared.tables.Tables.{Tables}

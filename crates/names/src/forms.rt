@@ -9,11 +9,8 @@ ghost use Rattle.meaning.specs.Types as meant;
 ghost use Rattle.names.specs.Marks.{marked, outer, Counts};
 
 use crate::charted::Charted;
-use sheet::types::{components_of, entries_of};
+use sheet::types::{LEVELS, components_of, entries_of};
 use tables::tables::{Entry, Item, SheetType};
-
-/// The most levels that a type nests.
-const LEVELS: usize = 4;
 
 /// Where a type stands: the names in its scope, and how many arguments of the channels around it come before, from the
 /// nearest channel out.

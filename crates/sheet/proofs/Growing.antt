@@ -13,7 +13,7 @@ use Rattle.tables.specs.declared.basis.Basis.{Basis}
 use Rattle.records.specs.declared.record.Quad.{Quad}
 use Rattle.records.specs.declared.record.Record.TheVariants as raw
 use Rattle.tables.specs.declared.tuple.Tuple.{Tuple}
-use Rattle.tables.specs.declared.tables.Entry.{Entry}
+use Rattle.tables.specs.Shares.{Entry}
 use Rattle.tables.specs.declared.tables.ChannelType.{ChannelType}
 use Rattle.tables.specs.declared.tables.SheetType.{SheetType}
 use Rattle.tables.specs.declared.tables.SheetType.TheVariants.{Channel}

@@ -10,7 +10,7 @@ use Rattle.sheet.specs.Labels.Repeated.{repeated}
 use Rattle.tables.specs.Channels.{entries}
 use Rattle.sheet.specs.Types.{Misformed, nests, type_at}
 use Rattle.sheet.specs.Types.Misformed.{same_label, too_deep}
-use Rattle.tables.specs.declared.tables.Entry.{Entry}
+use Rattle.tables.specs.Shares.{Entry}
 use Rattle.tables.specs.declared.tables.Item.{Item}
 use Rattle.tables.specs.declared.tables.SheetType.{SheetType}
 

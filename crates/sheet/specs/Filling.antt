@@ -16,7 +16,7 @@ use Rattle.records.specs.declared.record.Record.{Record}
 use Rattle.records.specs.declared.record.Record.TheVariants as raw
 use Rattle.tables.specs.declared.tuple.Tuple.{Tuple}
 use Rattle.tables.specs.declared.tables.ChannelType.{ChannelType}
-use Rattle.tables.specs.declared.tables.Entry.{Entry}
+use Rattle.tables.specs.Shares.{Entry}
 use Rattle.tables.specs.declared.tables.SheetType.{SheetType}
 use Rattle.tables.specs.declared.tables.SheetType.TheVariants.{Pure, Public, Channel}
 use Rattle.tables.specs.declared.tables.Node.{Node}

@@ -2,7 +2,7 @@
 use Rattle.std.specs.Prelude.{◌≡◌, ℕ, zero, suc, ◌<◌, Bool, false, List, length, slice_index_or}
 use Rattle.tables.specs.Channels.{components, entries}
 use Rattle.tables.specs.Range.{all}
-use Rattle.tables.specs.declared.tables.Entry.{Entry}
+use Rattle.tables.specs.Shares.{Entry}
 use Rattle.tables.specs.declared.tables.SheetType.{SheetType}
 use Rattle.tables.specs.declared.tables.SheetType.TheVariants.{Pure}
 

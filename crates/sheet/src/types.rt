@@ -11,7 +11,7 @@ use tables::tables::{Entry, Item, SheetType};
 use tables::tuple::Tuple;
 
 /// The most levels that a type may nest.
-const LEVELS: usize = 4;
+pub const LEVELS: usize = 4;
 
 /// The number of the first type that has one label on two entries or is nested too deep, or none.
 pub fn first_misformed(types: &[SheetType]) -> Option<usize>

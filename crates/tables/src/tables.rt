@@ -5,6 +5,7 @@ ghost use Rattle.tables.specs.Encoding.{parts};
 ghost use Rattle.tables.specs.Channels.{components, entries};
 ghost use Rattle.std.proofs.Common.{rules};
 
+use crate::share::Share;
 use crate::table::Table;
 use crate::tuple::Tuple;
 use fault::{Exact, Items, Label};
@@ -22,11 +23,7 @@ impl Exact for Item {
 }
 
 /// What a message on a channel carries of one right.
-#[derive(Clone, Copy)]
-pub struct Entry {
-    pub label: Label<Item>,
-    pub amount: u32,
-}
+pub type Entry = Share<Item>;
 
 /// A channel: the types of what a message carries (by their numbers), and the rights that go with a message.
 #[derive(Clone, Copy)]

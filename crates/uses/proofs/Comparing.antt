@@ -1,8 +1,8 @@
 -- Labels compared as the tables have them, and effects compared at the labels of their own entries.
-use Rattle.std.proofs.Common.{◌≡◌, ℕ, ◌+◌, ◌-◌, ◌<◌, ◌≤◌, true, ◌⊎◌, List, [], ◌∷◌, map, length, get_or, take, drop, sym, refl, ap, ◌∙◌, subst, ap₂, inl, inr, ⊎_elim, arith}
+use Rattle.std.proofs.Common.{◌≡◌, ℕ, ◌+◌, ◌-◌, ◌<◌, ◌≤◌, true, ◌⊎◌, List, [], ◌∷◌, map, length, get_or, take, sym, refl, ap, ◌∙◌, subst, ap₂, inl, inr, ⊎_elim, arith}
 use Rattle.std.specs.List.{AllByRecursion}
-use Rattle.std.proofs.ByRecursion.{All-drop, All-get_or, All-push}
-use Rattle.std.proofs.lemmas.List.{length-map, length-drop, drop_more, drop-map, get_or-map, map_more}
+use Rattle.std.proofs.ByRecursion.{All-get_or, All-push}
+use Rattle.std.proofs.lemmas.List.{length-map, get_or-map, map_more}
 use Rattle.std.proofs.lemmas.Bool.{and_parts, leb-true}
 use Rattle.calculus.specs.Countings.{Operations, Laws, Each≤}
 use Rattle.calculus.specs.Equality.{decide}
@@ -15,12 +15,13 @@ use Rattle.fault.specs.declared.items.Items.{Items}
 use Rattle.fault.specs.declared.items.Items.TheVariants.{One, Two, Three, Four}
 use Rattle.fault.specs.declared.label.Label as tables
 use Rattle.tables.specs.Range.{all}
-use Rattle.tables.specs.declared.tables.Entry.{Entry}
+use Rattle.tables.specs.Shares.{Entry}
 use Rattle.tables.specs.declared.tables.Item.{Item}
 use Rattle.tables.specs.declared.tables.Item.TheVariants.{Name, Index}
 use Rattle.meaning.specs.Labels.{label_of}
+use Rattle.meaning.specs.Shares.{GivesEach}
 use Rattle.meaning.specs.Types.{item, entry}
-use Rattle.uses.specs.Entries.{placed, placed_label, amount_for, Small, SameAmounts, SameEffects}
+use Rattle.uses.specs.Entries.{placed, placed_label, amount_for, Placed, Small, SameAmounts, SameEffects}
 
 -- items with positions from 1 mean different items
 item_injective : (a b : Item) → placed a ≡ true → placed b ≡ true → item a ≡ item b → a ≡ b
@@ -73,14 +74,19 @@ label_injective a b p q e =
     sym (of_list_list a a) ∙ ap (of_list a) lists ∙ of_list_list a b
 
 -- an entry gives its amount to its own label, and nothing to any other
-pub gives_own : (e : Entry) (l : tables.Label Item) → e.label ≡ l → amount_for (label_of item l.items) (entry e) ≡ e.amount
+gives_own : (e : Entry) (l : tables.Label Item) → e.label ≡ l → amount_for (label_of item l.items) (entry e) ≡ e.amount
 gives_own e l same = if_yes (decide (label_test item_test) (label_of item e.label.items) (label_of item l.items)) e.amount (ap (λ (m : tables.Label Item). label_of item m.items) same)
 
-pub gives_nothing : (e : Entry) (l : tables.Label Item) → placed_label e.label ≡ true → placed_label l ≡ true → (e.label ≡ l → ⊥)
+gives_nothing : (e : Entry) (l : tables.Label Item) → placed_label e.label ≡ true → placed_label l ≡ true → (e.label ≡ l → ⊥)
     → amount_for (label_of item l.items) (entry e) ≡ 0
 gives_nothing e l p q other =
     if_no (decide (label_test item_test) (label_of item e.label.items) (label_of item l.items)) e.amount
     (λ same. other (ap (λ xs. record { items = xs }) (label_injective e.label.items l.items p q same)))
+
+-- so of each entry the calculus says what it gives a label
+pub gives_each : (es : List Entry) (l : tables.Label Item) → Placed es → placed_label l ≡ true → GivesEach l es (λ e. amount_for (label_of item l.items) (entry e))
+gives_each [] l p q = tt
+gives_each (e ∷ es) l p q = ((gives_own e l, gives_nothing e l p.0 q), gives_each es l p.1 q)
 
 module _ (K : Operations) (W : Laws K) where
   each_small : (L : Label calculus.Item) (es : List calculus.Entry) → Small K es → Each≤ K.largest (map (amount_for L) es)
@@ -110,19 +116,6 @@ module _ (K : Operations) (W : Laws K) where
   pub agree_at : (a b es : List calculus.Entry) → SameEffects K a b → AllByRecursion (SameAmounts K a b) es
   agree_at a b [] h = tt
   agree_at a b (e ∷ es) h = (h e.label, agree_at a b es h)
-
-  -- one entry more in front
-  pub at_step : (es : List Entry) (L : Label calculus.Item) (k : ℕ) (d : Entry) → 0 < k → k ≤ length es →
-      entries_at K (map entry (drop (k - 1) es)) L ≡ K.join (amount_for L (entry (get_or es (k - 1) d))) (entries_at K (map entry (drop k es)) L)
-  at_step es L k d some within =
-      let e : k - 1 + 1 ≡ k = omega arith in
-      ap (λ xs. entries_at K (map entry xs) L) (drop_more es (k - 1) d (omega arith) ∙ ap (λ j. get_or es (k - 1) d ∷ drop j es) e)
-
-  -- no join on the way passes the ceiling
-  pub at_fits_from : (es : List Entry) (L : Label calculus.Item) (k : ℕ) → length es ≤ 8 → Small K (map entry es) → entries_at K (map entry (drop k es)) L ≤ K.ceiling
-  at_fits_from es L k few small =
-      at_fits L (map entry (drop k es)) (omega (arith, length-map (drop k es) entry, length-drop k es))
-      (subst (Small K) (drop-map entry k es) (All-drop (λ (e : calculus.Entry). e.amount ≤ K.largest) k (map entry es) small))
 
 -- what holds of each entry's meaning, at one entry, and up to one more
 pub meant_at : (P : calculus.Entry → Type 0) (es : List Entry) (i : ℕ) (d : Entry) → i < length es → AllByRecursion P (map entry es) → P (entry (get_or es i d))

@@ -6,7 +6,7 @@ use Rattle.calculus.specs.Countings.{Operations}
 use Rattle.calculus.specs.Labels.{Label}
 use Rattle.calculus.specs.Types as calculus
 use Rattle.calculus.specs.Types.{fill_entry}
-use Rattle.tables.specs.declared.tables.Entry.{Entry}
+use Rattle.tables.specs.Shares.{Entry}
 use Rattle.meaning.specs.Types.{entry}
 use Rattle.uses.specs.Entries.{Small, Placed, SoundEntries}
 

@@ -8,7 +8,7 @@ use Rattle.tables.specs.Channels.{components, entries}
 use Rattle.tables.specs.Elements.{elements}
 use Rattle.tables.specs.Encoding.{parts}
 use Rattle.tables.specs.Range.{all, below, item_fits, entry_fits, type_fits}
-use Rattle.tables.specs.declared.tables.Entry.{Entry}
+use Rattle.tables.specs.Shares.{Entry}
 use Rattle.tables.specs.declared.tables.Item.{Item}
 use Rattle.tables.specs.declared.tables.Item.TheVariants.{Name, Index}
 use Rattle.tables.specs.declared.tables.SheetType.{SheetType}

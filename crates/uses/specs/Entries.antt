@@ -9,7 +9,7 @@ use Rattle.calculus.specs.Types as calculus
 use Rattle.fault.specs.Items.{list}
 use Rattle.fault.specs.declared.label.Label as tables
 use Rattle.tables.specs.Range.{all}
-use Rattle.tables.specs.declared.tables.Entry.{Entry}
+use Rattle.tables.specs.Shares.{Entry}
 use Rattle.tables.specs.declared.tables.Item.{Item}
 use Rattle.tables.specs.declared.tables.Item.TheVariants.{Name, Index}
 use Rattle.meaning.specs.Types.{entry}

@@ -4,23 +4,12 @@ ghost use Rattle.std.specs.List.{AllByRecursion};
 ghost use Rattle.calculus.specs.Types.{entries_at};
 ghost use Rattle.meaning.specs.Labels.{label_of};
 ghost use Rattle.meaning.specs.Types as meant;
-ghost use Rattle.uses.specs.Entries.{placed_label, amount_for, SoundEntries, SameAmounts, SameEffects};
+ghost use Rattle.uses.specs.Entries.{placed_label, SoundEntries, SameAmounts, SameEffects};
 
 use counting::Counting;
 use fault::Label;
+use meaning::joined_for;
 use tables::tables::{Entry, Item};
-
-/// What one entry gives a label: its amount where it has this label, else nothing.
-fn amount_for(given: &Entry, label: &Label<Item>) -> u32
-    requires { (placed_label given.now.label ≡ true) × (placed_label label.now ≡ true) }
-    ensures { result ≡ amount_for (label_of meant.item label.now.items) (meant.entry given.now) }
-{
-    if given.label.is_same(label) {
-        given.amount
-    } else {
-        0
-    }
-}
 
 /// What the entries give a label: the amounts of those that have this label, joined.
 fn amount_at<C: Counting>(counting: &C, entries: &[Entry], label: &Label<Item>) -> u32
@@ -28,11 +17,7 @@ fn amount_at<C: Counting>(counting: &C, entries: &[Entry], label: &Label<Item>) 
     requires placed { placed_label label.now ≡ true }
     ensures { result ≡ entries_at (C.Counting.operations counting.now) (map meant.entry entries.now) (label_of meant.item label.now.items) }
 {
-    let mut amount = 0;
-    for entry in entries {
-        amount = counting.join_or_zero(amount, amount_for(entry, label));
-    }
-    amount
+    joined_for(counting, entries, label)
 }
 
 /// Whether two lists of entries give the same amounts to the labels of some entries.

@@ -6,13 +6,13 @@ use Rattle.effects.specs.Faults.{OfEffects}
 use Rattle.judge.proofs.Verdicts.{few_first, types_first, effects_first, passed_accepted}
 use Rattle.judge.proofs.verdict.first_fault.Goals as goal
 
-pub returns-then-rows-lt-ROWS-clause-first : goal.returns-then-rows-lt-ROWS-clause-first
-returns-then-rows-lt-ROWS-clause-first g c = few_first _ _ _ (omega (arith, c.if-rows-lt-ROWS.true, c.clear_rows.auto.rows))
+pub returns-then-rows-lt-ENOUGH-clause-first : goal.returns-then-rows-lt-ENOUGH-clause-first
+returns-then-rows-lt-ENOUGH-clause-first g c = few_first _ _ _ (omega (arith, c.if-rows-lt-ENOUGH.true, c.clear_rows.auto.rows))
 
 pub returns-in_err-judge_types-clause-first : goal.returns-in_err-judge_types-clause-first
 returns-in_err-judge_types-clause-first g c =
     let p = err_from_is_err_and c.from_residual.result c.from_residual.ensures.1 in
-    let enough : 8192 ≤ length c.args.rows.now = omega (arith, c.if-rows-lt-ROWS.false, c.clear_rows.auto.rows) in
+    let enough : 8192 ≤ length c.args.rows.now = omega (arith, c.if-rows-lt-ENOUGH.false, c.clear_rows.auto.rows) in
     rw (p.1, p.2) (types_first _ _ _ c.in_err-judge_types.field-0.0 enough (c.in_err-judge_types.ensures.first _))
 
 pub returns-clause-first : goal.returns-clause-first

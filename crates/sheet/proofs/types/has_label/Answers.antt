@@ -1,7 +1,7 @@
 use Rattle.std.proofs.Common.{◌≡◌, rules}
 use Rattle.std.proofs.lemmas.Iterator.{cases_from_any, YieldsList-from_slice}
 use borrow.Author.Tests.{tests}
-use Rattle.tables.specs.declared.tables.Entry.{Entry}
+use Rattle.tables.specs.Shares.{Entry}
 use Rattle.sheet.proofs.Labelling.{labelled_decides}
 use Rattle.sheet.proofs.types.has_label.Goals as goal
 

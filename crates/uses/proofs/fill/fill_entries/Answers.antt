@@ -4,7 +4,7 @@ use Rattle.std.proofs.lemmas.List.{take_all}
 use Rattle.calculus.specs.Types.{fill_entry}
 use Rattle.tables.specs.Elements.{elements}
 use Rattle.tables.specs.Encoding.{parts}
-use Rattle.tables.specs.declared.tables.Entry.{Entry}
+use Rattle.tables.specs.Shares.{Entry}
 use Rattle.meaning.specs.Types.{entry}
 use Rattle.uses.specs.Entries.{placed_label, Placed}
 use Rattle.uses.proofs.Filling.{pushed, filled_count, filled_more}

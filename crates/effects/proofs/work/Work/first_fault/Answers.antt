@@ -1,8 +1,8 @@
 use Rattle.std.proofs.Common.{◌≡◌, ℕ, ◌+◌, List, length, Option, sym, ap, ◌∙◌, subst, arith}
 use Rattle.fault.specs.declared.label.Label.{Label}
+use Rattle.effects.specs.Rows.{Row}
 use Rattle.effects.specs.Found.{FirstIn, brought, tried}
 use Rattle.effects.specs.declared.found.Found.{Found}
-use Rattle.effects.specs.declared.row.Row.{Row}
 use Rattle.effects.proofs.Tried.{tried_asked, tried_unasked, all_tried}
 use Rattle.effects.proofs.work.Work.first_fault.Goals as goal
 use Rattle.effects.proofs.work.Work.first_fault.Goals.{then-is_asking, else-is_asking}
