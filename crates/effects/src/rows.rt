@@ -59,21 +59,14 @@ fn row_of_entry(names: &Tuple<u8>, entry: &Entry) -> Row
     }
 }
 
-/// The number of a name's type; past the last name it is one past the last type.
-fn type_of(tables: &Tables, name: u8) -> usize
-    ensures { result ≡ slice_index_or (elements tables.now.names) name (length (elements tables.now.types)) }
-{
-    let names = tables.names.as_slice();
-    names
-        .get(usize::from(name))
-        .map_or(tables.types.len(), |number| usize::from(*number))
-}
-
 /// The entries of what a message on a channel carries.
 fn carried(tables: &Tables, channel: u8) -> &[Entry]
     ensures { result.now ≡ carried (elements tables.now.types) (elements tables.now.names) channel }
 {
-    entries_of(tables.types.as_slice(), type_of(tables, channel))
+    entries_of(
+        tables.types.as_slice(),
+        tables.type_number(usize::from(channel)),
+    )
 }
 
 /// The eight rows of a node: those of what its message carries, or one full right, and then rows of nothing.
