@@ -1,6 +1,6 @@
 //! None to four things in order: the arguments of a message, the components of a channel.
 ghost use Rattle.std.specs.Prelude.{◌≡◌, length, take};
-ghost use Rattle.std.specs.List.{All};
+ghost use Rattle.std.specs.List.{All, AllZip};
 ghost use Rattle.std.specs.Iterator.{YieldsFirst, item_count};
 ghost use Rattle.fault.specs.Items.{things, nth, AllAnswer, AnyAnswer};
 ghost use Rattle.tables.specs.Encoding.{parts};
@@ -47,6 +47,14 @@ impl<T: Copy> Tuple<T> {
         ensures { AnyAnswer (F.post test) (parts self.now) result }
     {
         self.0.is_some_and(|items| items.any(test))
+    }
+
+    /// What a function gives of each, in the same order.
+    pub fn map<U, F: Fn(T) -> U>(&self, f: F) -> Tuple<U>
+        requires { All (F.pre f) (parts self.now) }
+        ensures { AllZip (F.post f) (parts self.now) (parts result) }
+    {
+        Tuple(self.0.map(|items| items.map(f)))
     }
 }
 
