@@ -10,6 +10,9 @@ use Rattle.sheet.specs.Tree.{children, node_at, times, named, misgrown}
 use Rattle.tables.specs.declared.tables.Node.{Node}
 use Rattle.tables.specs.declared.tables.Node.TheVariants.{Stop}
 
+pub times_one : (k c : ℕ) → times k (c ∷ []) ≤ 1
+times_one k c = count_by-le-length (λ y. eqb y k) (c ∷ [])
+
 -- a tuple has a number at most four times
 pub times_few : (k : ℕ) (o : Option (Items ℕ)) → times k (things o) ≤ 4
 times_few k o = omega (arith, few o, count_by-le-length (λ y. eqb y k) (things o))
