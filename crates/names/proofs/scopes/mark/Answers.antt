@@ -16,5 +16,5 @@ loop-name-preserved c y l =
 
 pub returns : goal.returns
 returns c y l =
-    let all = all_yielded _ _ _ (take c.args.count (parts c.args.names.now)) _ _ (c.into_iter-name-iterator.ensures.into_iter_gives ∙ c.first.ensures) c.loop-name.yielded_by c.in-None.is c.next.ensures.steps in
+    let all = all_yielded _ _ _ (take c.args.count (parts c.args.names.now)) _ _ (c.into_iter-name-iterator.ensures.into_iter_gives ∙ c.first-name-items.ensures) c.loop-name.yielded_by c.in-None.is c.next.ensures.steps in
     c.loop-name.invariant y (omega arith) ∙ ap (λ xs. member y xs || get_or c.args.marks.now y false) all
