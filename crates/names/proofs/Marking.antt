@@ -1,5 +1,5 @@
 -- Marks of names against scopes, and the names that stand before one.
-use Rattle.std.proofs.Common.{◌≡◌, ℕ, ◌<◌, ◌≤◌, Bool, true, false, ◌||◌, eqb, List, [], ◌∷◌, ◌++◌, Some, None, Option, MatchOption, sym, refl, ap, ◌∙◌, arith}
+use Rattle.std.proofs.Common.{◌≡◌, ℕ, ◌<◌, ◌≤◌, Bool, true, false, ◌||◌, List, ◌++◌, Some, None, Option, MatchOption, sym, refl, ap, ◌∙◌, arith}
 use Rattle.sheet.specs.Scope.{member}
 use Rattle.sheet.proofs.Scoped.{member_append}
 use Rattle.fault.specs.First.{Lowest}

@@ -1,10 +1,8 @@
 use Rattle.std.proofs.Common.{◌≡◌, ◌+◌, ◌<◌, length, get_or, None, ap, ◌∙◌, subst, arith, rules}
-use Rattle.std.specs.Option.{option_or}
-use Rattle.std.specs.Bool.{then_some}
 use Rattle.fault.specs.First.{Lowest}
 use Rattle.tables.specs.Encoding.{parts}
 use Rattle.sheet.specs.Tree.{node_at}
-use Rattle.sheet.specs.Scope.{member, Holders}
+use Rattle.sheet.specs.Scope.{member}
 use Rattle.sheet.proofs.Charts.{lowest_more}
 use Rattle.sheet.proofs.chart.find_holders.Goals as goal
 

@@ -1,8 +1,6 @@
-use Rattle.std.proofs.Common.{◌≡◌, ℕ, ◌<◌, ◌++◌, length, get_or, None}
+use Rattle.std.proofs.Common.{◌≡◌, ℕ, ◌<◌, length, get_or, None}
 use Rattle.std.specs.Option.{option_or}
 use Rattle.std.specs.Bool.{then_some}
-use Rattle.fault.specs.Items.{things}
-use Rattle.tables.specs.Encoding.{parts}
 use Rattle.sheet.specs.Scope.{member}
 use Rattle.sheet.proofs.chart.note_each.Given as goal
 

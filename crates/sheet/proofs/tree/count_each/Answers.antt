@@ -1,5 +1,4 @@
 use Rattle.std.proofs.Common.{◌<◌, [], ◌∷◌, length, ap, arith}
-use Rattle.std.proofs.lemmas.List.Sums.{count_by-le-length}
 use Rattle.tables.specs.Encoding.{parts}
 use Rattle.tables.proofs.Iterated.{all_yielded, few}
 use Rattle.sheet.specs.Tree.{times}
