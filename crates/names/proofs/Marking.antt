@@ -1,20 +1,13 @@
 -- Marks of names against scopes, and the names that stand before one.
-use Rattle.std.proofs.Common.{◌≡◌, ℕ, ◌<◌, ◌≤◌, Bool, true, false, ◌||◌, eqb, List, [], ◌∷◌, ◌++◌, Some, None, Option, MatchOption, sym, refl, ap, ◌∙◌, arith}
+use Rattle.std.proofs.Common.{◌≡◌, ℕ, ◌<◌, ◌≤◌, Bool, true, false, ◌||◌, List, ◌++◌, Some, None, Option, MatchOption, sym, refl, ap, ◌∙◌, arith}
 use Rattle.sheet.specs.Scope.{member}
+use Rattle.sheet.proofs.Scoped.{member_append}
 use Rattle.fault.specs.First.{Lowest}
-
-or_assoc : (a b c : Bool) → (a || (b || c)) ≡ ((a || b) || c)
-or_assoc true b c = refl
-or_assoc false b c = refl
 
 pub or_swap : (a b c : Bool) → (b || (a || c)) ≡ ((a || b) || c)
 or_swap true true c = refl
 or_swap true false c = refl
 or_swap false b c = refl
-
-member_append : (y : ℕ) (xs ys : List ℕ) → member y (xs ++ ys) ≡ (member y xs || member y ys)
-member_append y [] ys = refl
-member_append y (x ∷ xs) ys = ap (λ b. eqb y x || b) (member_append y xs ys) ∙ or_assoc (eqb y x) (member y xs) (member y ys)
 
 -- marked for one list and then for another
 pub marked_more : (old : Bool) (y : ℕ) (xs ys : List ℕ) → (member y ys || (member y xs || old)) ≡ (member y (xs ++ ys) || old)

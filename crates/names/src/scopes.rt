@@ -1,6 +1,5 @@
 //! The scope of a name's type, as a mark for each of the 64 names.
-ghost use Rattle.std.specs.Prelude.{◌≡◌, ℕ, ◌<◌, false, ◌||◌, length, take, Some, Decides, slice_index_or};
-ghost use Rattle.std.specs.Option.{option_to_list};
+ghost use Rattle.std.specs.Prelude.{◌≡◌, ℕ, ◌<◌, false, ◌||◌, [], ◌∷◌, length, take, Some, Decides, slice_index_or};
 ghost use Rattle.fault.specs.First.{Lowest};
 ghost use Rattle.fault.specs.Items.{nth};
 ghost use Rattle.tables.specs.Encoding.{parts};
@@ -15,14 +14,12 @@ use std::array;
 use tables::tables::Node;
 use tables::tuple::Tuple;
 
-/// Marks the name, if there is one and it has a place.
-fn mark_name(name: Option<u8>, marks: &mut [bool])
-    ensures { (y : ℕ) → y < length marks.old → slice_index_or marks.new y false ≡ (member y (option_to_list name) || slice_index_or marks.old y false) }
+/// Marks the name, if it has a place.
+fn mark_name(name: usize, marks: &mut [bool])
+    ensures { (y : ℕ) → y < length marks.old → slice_index_or marks.new y false ≡ (member y (name ∷ []) || slice_index_or marks.old y false) }
 {
-    if let Some(x) = name
-        && (x as usize) < marks.len()
-    {
-        marks[x as usize] = true;
+    if name < marks.len() {
+        marks[name] = true;
     }
 }
 
@@ -30,9 +27,8 @@ fn mark_name(name: Option<u8>, marks: &mut [bool])
 fn mark(names: &Tuple<u8>, count: usize, marks: &mut [bool])
     ensures { (y : ℕ) → y < length marks.old → slice_index_or marks.new y false ≡ (member y (take count (parts names.now)) || slice_index_or marks.old y false) }
 {
-    // By places: what a closure is given of a tuple's things it can only look at, and this writes.
-    for i in 0..count {
-        mark_name(names.get(i), marks);
+    for name in names.first(count) {
+        mark_name(usize::from(name), marks);
     }
 }
 

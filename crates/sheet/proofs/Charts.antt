@@ -1,8 +1,10 @@
 -- The tables of binders and parents against the nodes, for scope.
-use Rattle.std.proofs.Common.{◌≡◌, ℕ, zero, suc, ◌<◌, ◌≤◌, Bool, true, false, ◌&&◌, ltb, ◌⊎◌, List, [], ◌∷◌, length, get_or, Some, None, Decides, Option, sym, refl, ap, ◌∙◌, subst, inl, inr, ⊎_elim, arith}
+use Rattle.std.proofs.Common.{◌≡◌, ℕ, zero, suc, ◌+◌, ◌<◌, ◌≤◌, Bool, true, false, ◌&&◌, ltb, ◌⊎◌, List, [], ◌∷◌, length, get_or, Some, None, Decides, Option, sym, refl, ap, ◌∙◌, subst, inl, inr, ⊎_elim, arith, below_more}
 use Rattle.std.proofs.lemmas.List.{get_or_past}
 use Rattle.std.proofs.lemmas.Bool.{both_ways, ltb-true, and_parts, cases_lt, cases_Bool, false≢true}
 use Rattle.std.proofs.lemmas.Bool.Decides.{nat_tests}
+use Rattle.std.specs.Option.{option_or}
+use Rattle.std.specs.Bool.{then_some}
 use Rattle.fault.specs.First.{Lowest}
 use Rattle.tables.specs.Encoding.{parts}
 use Rattle.tables.specs.Range.{all, below, node_fits}
@@ -48,6 +50,12 @@ fits_children names nodes (New y next) k f m = grind (arith, nat_tests)
 fits_children names nodes (Test y z i j) k f m = let a = (and_parts (ltb y names && ltb z names) (ltb i nodes && ltb j nodes) f).1 in grind (arith, nat_tests)
 fits_children names nodes (Begin label next) k f m = let a = (and_parts _ (ltb next nodes) f).1 in grind (arith, nat_tests)
 fits_children names nodes (End label next) k f m = let a = (and_parts _ (ltb next nodes) f).1 in grind (arith, nat_tests)
+
+-- the lowest, for one number more
+pub lowest_more : (P : ℕ → Type 0) (n : ℕ) (o q : Option ℕ) (b : Bool) → Lowest P n o → q ≡ option_or o (then_some b n) → (b ≡ true → P n) → (P n → b ≡ true) → Lowest P (n + 1) q
+lowest_more P n (Some m) q b h e has only = subst (Lowest P (n + 1)) (sym e) (omega (arith, h.0), h.1, h.2)
+lowest_more P n None q true h e has only = subst (Lowest P (n + 1)) (sym e) (omega arith, has refl, h)
+lowest_more P n None q false h e has only = subst (Lowest P (n + 1)) (sym e) (below_more (λ k. P k → ⊥) n h (λ p. false≢true (only p)))
 
 -- what the lowest is, and that there is one where there is any
 lowest_here : (P : ℕ → Type 0) (n : ℕ) (o : Option ℕ) (b : ℕ) → Lowest P n o → o ≡ Some b → (b < n) × P b × ((j : ℕ) → j < b → P j → ⊥)

@@ -1,13 +1,13 @@
 -- The first fault of tables, from the first of each kind.
-use Rattle.std.proofs.Common.{◌≡◌, ℕ, zero, suc, ◌+◌, ◌<◌, ◌≤◌, true, List, [], ◌∷◌, ◌++◌, length, get_or, take, Some, None, sym, refl, ap, ◌∙◌, subst, inl, inr, ⊎_elim, arith, length-append}
+use Rattle.std.proofs.Common.{◌≡◌, ℕ, zero, suc, ◌*◌, ◌<◌, ◌≤◌, true, List, [], ◌∷◌, length, take, Some, None, sym, refl, ap, subst, inl, inr, ⊎_elim, arith, length-append}
 use Rattle.std.specs.List.{flat_map}
-use Rattle.std.proofs.lemmas.List.{take_more, flat_map_more, get_or_past}
+use Rattle.std.proofs.lemmas.List.{get_or_past, length-map, length-take}
 use Rattle.std.proofs.lemmas.Bool.{and_parts, cases_lt}
 use Rattle.fault.specs.First.{First, Precedes, Lowest}
 use Rattle.fault.specs.declared.fault.Fault.{Fault}
 use Rattle.fault.specs.declared.fault.Fault.TheVariants.{NotATree, OutOfScope, BadType}
 use Rattle.tables.specs.Elements.{elements}
-use Rattle.tables.specs.Encoding.{type_records}
+use Rattle.tables.specs.Encoding.{type_records, entry_record}
 use Rattle.tables.specs.Range.{all, all_from, below, type_fits, node_fits, ranged, totals}
 use Rattle.sheet.specs.Tree.{misgrown}
 use Rattle.sheet.specs.Scope.{Misnamed}
@@ -16,15 +16,18 @@ use Rattle.sheet.specs.Types.{Misformed, type_at}
 use Rattle.sheet.specs.Opening.{type_place, node_place, Limited, Crooked, not_a_tree, out_of_scope, bad_type}
 use Rattle.tables.specs.declared.tables.Node.{Node}
 use Rattle.tables.specs.declared.tables.SheetType.{SheetType}
-use Rattle.tables.specs.declared.tables.SheetType.TheVariants.{Pure}
+use Rattle.tables.specs.declared.tables.SheetType.TheVariants.{Pure, Public, Channel}
 use Rattle.tables.specs.declared.tables.Tables.{Tables}
 
--- the records of one type more
-pub records_more : (xs : List SheetType) (i : ℕ) (x : SheetType) (n k : ℕ) → i < length xs → x ≡ get_or xs i x → n ≡ length (flat_map type_records (take i xs)) → k ≡ length (type_records x) → n + k ≡ length (flat_map type_records (take (i + 1) xs))
-records_more xs i x n k l e p q =
-    let next : take (i + 1) xs ≡ take i xs ++ x ∷ [] = take_more xs i x l ∙ ap (λ y. take i xs ++ y ∷ []) (sym e) in
-    let all : flat_map type_records (take (i + 1) xs) ≡ flat_map type_records (take i xs) ++ type_records x = ap (flat_map type_records) next ∙ sym (flat_map_more type_records [] (take i xs) x) in
-    omega (arith, p, q, ap length all ∙ length-append (flat_map type_records (take i xs)) (type_records x))
+type_few : (t : SheetType) → length (type_records t) ≤ 9
+type_few Pure = omega arith
+type_few Public = omega arith
+type_few (Channel c) = omega (arith, length-map (elements c.entries) entry_record, length-take c.entries.count c.entries.items, c.entries.within)
+
+-- a type has its own record and those of eight entries at most
+pub types_few : (xs : List SheetType) → length (flat_map type_records xs) ≤ 9 * length xs
+types_few [] = omega arith
+types_few (x ∷ xs) = omega (arith, type_few x, types_few xs, length-append (type_records x) (flat_map type_records xs))
 
 -- more of the types have no fewer records
 types_rise : (i j : ℕ) (xs : List SheetType) → i ≤ j → length (flat_map type_records (take i xs)) ≤ length (flat_map type_records (take j xs))

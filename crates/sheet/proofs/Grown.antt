@@ -1,25 +1,32 @@
 -- Children as they are counted, for the tree.
-use Rattle.std.proofs.Common.{◌≡◌, ℕ, ◌+◌, ◌<◌, ◌≤◌, true, false, cond, not, ◌&&◌, ◌||◌, eqb, ltb, List, [], ◌∷◌, ◌++◌, length, take, Some, None, Option, sym, ap, ◌∙◌, arith}
-use Rattle.std.specs.Option.{option_to_list}
+use Rattle.std.proofs.Common.{◌≡◌, ℕ, ◌+◌, ◌<◌, ◌≤◌, true, false, cond, not, ◌&&◌, ◌||◌, eqb, ltb, List, [], ◌∷◌, ◌++◌, length, take, Option, sym, ap, ◌∙◌, arith}
 use Rattle.std.proofs.lemmas.List.Sums.{sum_by_more, sum_by-append, count_by-le-length}
 use Rattle.std.proofs.lemmas.Bool.{both_ways}
+use Rattle.fault.specs.Items.{things}
+use Rattle.fault.specs.declared.items.Items.{Items}
 use Rattle.tables.specs.Range.{all}
+use Rattle.tables.proofs.Iterated.{few}
 use Rattle.sheet.specs.Tree.{children, node_at, times, named, misgrown}
 use Rattle.tables.specs.declared.tables.Node.{Node}
 use Rattle.tables.specs.declared.tables.Node.TheVariants.{Stop}
 
-pub times_one : (k : ℕ) (o : Option ℕ) → times k (option_to_list o) ≤ 1
-times_one k None = omega arith
-times_one k (Some x) = count_by-le-length (λ y. eqb y k) (x ∷ [])
+pub times_one : (k c : ℕ) → times k (c ∷ []) ≤ 1
+times_one k c = count_by-le-length (λ y. eqb y k) (c ∷ [])
 
--- the two children of one node more
-pub named_more : (nodes : List Node) (i k : ℕ) (o p : Option ℕ) → i < length nodes → option_to_list o ++ option_to_list p ≡ children (node_at nodes i)
-    → named (take (i + 1) nodes) k ≡ named (take i nodes) k + times k (option_to_list o) + times k (option_to_list p)
-named_more nodes i k o p l e =
+-- a tuple has a number at most four times
+pub times_few : (k : ℕ) (o : Option (Items ℕ)) → times k (things o) ≤ 4
+times_few k o = omega (arith, few o, count_by-le-length (λ y. eqb y k) (things o))
+
+-- one child more
+pub times_more : (k c : ℕ) (xs : List ℕ) → times k (xs ++ c ∷ []) ≡ times k xs + times k (c ∷ [])
+times_more k c xs = sum_by-append (λ x. cond (eqb x k) 1 0) xs (c ∷ [])
+
+-- the children of one node more
+pub named_more : (nodes : List Node) (i k : ℕ) (cs : List ℕ) → i < length nodes → cs ≡ children (node_at nodes i)
+    → named (take (i + 1) nodes) k ≡ named (take i nodes) k + times k cs
+named_more nodes i k cs l e =
     let m = sum_by_more (λ x. times k (children x)) nodes i Stop l in
-    let a = sum_by-append (λ x. cond (eqb x k) 1 0) (option_to_list o) (option_to_list p) in
-    let t : times k (children (node_at nodes i)) ≡ times k (option_to_list o) + times k (option_to_list p) = ap (times k) (sym e) ∙ a in
-    omega arith
+    omega (arith, m, ap (times k) e)
 
 -- what the test of a node says of it
 pub grown : (nodes : List Node) (n count : ℕ) → count ≡ named nodes n

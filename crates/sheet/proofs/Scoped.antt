@@ -1,22 +1,12 @@
 -- Names in lists, and the way up from a node, for the tables of scope.
-use Rattle.std.proofs.Common.{◌≡◌, ℕ, zero, suc, ◌+◌, Bool, true, false, ◌||◌, eqb, List, [], ◌∷◌, ◌++◌, get_or, take, Some, None, Decides, Option, sym, refl, ap, ◌∙◌, subst, inl, inr, ⊎_elim, add-one, arith}
-use Rattle.std.specs.Option.{option_or, option_to_list}
+use Rattle.std.proofs.Common.{◌≡◌, ℕ, Bool, true, false, ◌||◌, eqb, List, [], ◌∷◌, ◌++◌, get_or, Some, None, Decides, Option, sym, refl, ap, ◌∙◌, subst, inl, inr, ⊎_elim, arith}
+use Rattle.std.specs.Option.{option_or}
 use Rattle.std.specs.Bool.{then_some}
 use Rattle.std.proofs.lemmas.Bool.{or_cases, or_left, or_right, eq-eqb, eqb-true, false≢true}
 use Rattle.std.proofs.lemmas.Bool.Decides.{not_from_Decides}
-use Rattle.fault.specs.Items.{nth, any_in_turn, AnyAnswer}
+use Rattle.fault.specs.Items.{any_in_turn, AnyAnswer}
 use Rattle.sheet.specs.Scope.{member, Any, Over}
 use Rattle.sheet.specs.Scope.Over.{nearest, beyond}
-
-take_nth_suc : {X : Type 0} (xs : List X) (i : ℕ) → take (suc i) xs ≡ take i xs ++ option_to_list (nth xs i)
-take_nth_suc [] zero = refl
-take_nth_suc [] (suc i) = refl
-take_nth_suc (x ∷ xs) zero = refl
-take_nth_suc (x ∷ xs) (suc i) = ap (λ ys. x ∷ ys) (take_nth_suc xs i)
-
--- one place more of a list
-pub take_nth : {X : Type 0} (xs : List X) (i : ℕ) → take (i + 1) xs ≡ take i xs ++ option_to_list (nth xs i)
-take_nth xs i = rw add-one (take_nth_suc xs i)
 
 or_assoc : (a b c : Bool) → (a || (b || c)) ≡ ((a || b) || c)
 or_assoc true b c = refl
@@ -25,27 +15,6 @@ or_assoc false b c = refl
 pub member_append : (y : ℕ) (xs ys : List ℕ) → member y (xs ++ ys) ≡ (member y xs || member y ys)
 member_append y [] ys = refl
 member_append y (x ∷ xs) ys = ap (λ b. eqb y x || b) (member_append y xs ys) ∙ or_assoc (eqb y x) (member y xs) (member y ys)
-
--- none has P in a list, nor in another: none in the two
-pub any_append : (P : ℕ → Type 0) (xs ys : List ℕ) → (Any P xs → ⊥) → (Any P ys → ⊥) → Any P (xs ++ ys) → ⊥
-any_append P xs ys no-x no-y a =
-    ⊎_elim
-    (λ h. no-x (a.0, h, a.2))
-    (λ h. no-y (a.0, h, a.2))
-    (or_cases (member a.0 xs) (member a.0 ys) (sym (member_append a.0 xs ys) ∙ a.1))
-
--- the same for one place more of a list
-pub any_more : (P : ℕ → Type 0) (xs : List ℕ) (i : ℕ) → (Any P (take i xs) → ⊥) → (Any P (option_to_list (nth xs i)) → ⊥) → Any P (take (i + 1) xs) → ⊥
-any_more P xs i before here = rw take_nth (any_append P (take i xs) (option_to_list (nth xs i)) before here)
-
-nth_member : (x : ℕ) (xs : List ℕ) (i : ℕ) → member x (option_to_list (nth xs i)) ≡ true → member x xs ≡ true
-nth_member x [] i h = absurd (false≢true h)
-nth_member x (y ∷ ys) zero h = ⊎_elim (or_left (eqb x y) (member x ys)) (λ f. absurd (false≢true f)) (or_cases (eqb x y) false h)
-nth_member x (y ∷ ys) (suc i) h = or_right (eqb x y) (member x ys) (nth_member x ys i h)
-
--- the name at a place has P: one of the list does
-pub any_place : (P : ℕ → Type 0) (xs : List ℕ) (i : ℕ) → Any P (option_to_list (nth xs i)) → Any P xs
-any_place P xs i a = (a.0, nth_member a.0 xs i a.1, a.2)
 
 noted_twice : (o : Option ℕ) (n : ℕ) (a b : Bool) → option_or (option_or o (then_some a n)) (then_some b n) ≡ option_or o (then_some (a || b) n)
 noted_twice (Some m) n a b = refl

@@ -14,7 +14,7 @@ pub enum Class {
 }
 
 /// What stands before a record: how many of each, and for how many entries there is room.
-#[derive(Clone, Copy)]
+#[derive(Clone, Copy, Default)]
 pub struct Census {
     pub heads: usize,
     pub types: usize,

@@ -1,9 +1,10 @@
 //! The chart of a sheet's nodes: which node binds each name, and which node each is a child of.
-ghost use Rattle.std.specs.Prelude.{◌≡◌, ℕ, ◌<◌, length, None, slice_index_or};
-ghost use Rattle.std.specs.Option.{option_or, option_to_list};
+ghost use Rattle.std.specs.Prelude.{◌≡◌, ℕ, ◌<◌, List, [], ◌∷◌, length, None, slice_index_or};
+ghost use Rattle.std.specs.Option.{option_or};
 ghost use Rattle.std.specs.Bool.{then_some};
 ghost use Rattle.tables.specs.Encoding.{parts};
 ghost use Rattle.sheet.specs.Tree.{children};
+ghost use Rattle.tables.specs.declared.tables.Node.{Node};
 ghost use Rattle.sheet.specs.Scope.{member, binds, Holders};
 
 use crate::tree::children_of;
@@ -27,8 +28,8 @@ impl Chart {
     {
         let mut binders = [None; 64];
         let mut parents = [None; 1024];
-        find_binders(nodes, &mut binders);
-        find_parents(nodes, &mut parents);
+        find_holders(nodes, |node| names_bound(node).map(u16::from), &mut binders);
+        find_holders(nodes, children_of, &mut parents);
         Chart { binders, parents }
     }
 
@@ -58,46 +59,32 @@ pub fn names_bound(node: &Node) -> Tuple<u8>
     }
 }
 
-/// Notes node `n` for number `x`, if there is one and it has a place, unless a node is noted there already.
-fn note(x: Option<usize>, n: usize, table: &mut [Option<usize>])
-    ensures { (y : ℕ) → y < length table.old → slice_index_or table.new y None ≡ option_or (slice_index_or table.old y None) (then_some (member y (option_to_list x)) n) }
+/// Notes node `n` for number `x`, if it has a place, unless a node is noted there already.
+fn note(x: usize, n: usize, table: &mut [Option<usize>])
+    ensures { (y : ℕ) → y < length table.old → slice_index_or table.new y None ≡ option_or (slice_index_or table.old y None) (then_some (member y (x ∷ [])) n) }
 {
-    if let Some(place) = x
-        && place < table.len()
-        && table[place].is_none()
-    {
-        table[place] = Some(n);
+    if x < table.len() && table[x].is_none() {
+        table[x] = Some(n);
     }
 }
 
-/// Notes node `n` for each of the names.
-fn note_names(names: &Tuple<u8>, n: usize, table: &mut [Option<usize>])
-    ensures { (y : ℕ) → y < length table.old → slice_index_or table.new y None ≡ option_or (slice_index_or table.old y None) (then_some (member y (parts names.now)) n) }
+/// Notes node `n` for each of the numbers.
+fn note_each(numbers: Tuple<u16>, n: usize, table: &mut [Option<usize>])
+    ensures { (y : ℕ) → y < length table.old → slice_index_or table.new y None ≡ option_or (slice_index_or table.old y None) (then_some (member y (parts numbers)) n) }
 {
-    for i in 0..names.count() {
-        note(names.get(i).map(usize::from), n, table);
+    for number in numbers {
+        note(usize::from(number), n, table);
     }
 }
 
-/// The lowest node that binds each name that has a place.
-fn find_binders(nodes: &[Node], binders: &mut [Option<usize>])
-    requires { (x : ℕ) → x < length binders.old → slice_index_or binders.old x None ≡ None }
-    ensures { Holders binds nodes.now (length nodes.now) binders.new }
+/// The lowest node that holds each number that has a place, where `held` tells which numbers a node holds.
+fn find_holders<F: Fn(&Node) -> Tuple<u16>>(nodes: &[Node], held: F, table: &mut [Option<usize>])
+    requires callable { F.IsAlwaysCallable held }
+    requires empty { (x : ℕ) → x < length table.old → slice_index_or table.old x None ≡ None }
+    ensures { (of : Node → List ℕ) → ((node : _) (r : _) → F.post held node r → parts r ≡ of node.now) → Holders of nodes.now (length nodes.now) table.new }
 {
     for (n, node) in nodes.iter().enumerate() {
-        note_names(&names_bound(node), n, binders);
-    }
-}
-
-/// The lowest node that has each number with a place as a child.
-fn find_parents(nodes: &[Node], parents: &mut [Option<usize>])
-    requires { (x : ℕ) → x < length parents.old → slice_index_or parents.old x None ≡ None }
-    ensures { Holders children nodes.now (length nodes.now) parents.new }
-{
-    for (n, node) in nodes.iter().enumerate() {
-        let (first, second) = children_of(node);
-        note(first, n, parents);
-        note(second, n, parents);
+        note_each(held(node), n, table);
     }
 }
 

@@ -34,11 +34,7 @@ fn records_of_types(types: &[SheetType]) -> usize
     ensures few { result ≤ 576 }
     ensures each { (i : ℕ) → i < length types.now → length (entries (type_at types.now i)) ≤ 8 }
 {
-    let mut count = 0;
-    for given in types {
-        count += records_of_type(given);
-    }
-    count
+    types.iter().map(records_of_type).sum()
 }
 
 /// The first fault of tables whose fields are in range, or none.

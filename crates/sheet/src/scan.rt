@@ -26,13 +26,7 @@ impl Census {
     pub fn new() -> Census
         ensures { result ≡ nothing }
     {
-        Census {
-            heads: 0,
-            types: 0,
-            names: 0,
-            nodes: 0,
-            room: 0,
-        }
+        Census::default()
     }
 
     /// Whether a record of this class stands wrongly, or is one too many, after these.
@@ -55,55 +49,35 @@ impl Census {
         requires { misplaced self.now kind ≡ false }
         ensures { result ≡ after self.now kind }
     {
-        let Census {
-            heads,
-            types,
-            names,
-            nodes,
-            room,
-        } = *self;
         match kind {
             Class::Head => Census {
-                heads: heads + 1,
-                types,
-                names,
-                nodes,
+                heads: self.heads + 1,
                 room: 0,
+                ..*self
             },
             Class::Plain => Census {
-                heads,
-                types: types + 1,
-                names,
-                nodes,
+                types: self.types + 1,
                 room: 0,
+                ..*self
             },
             Class::Channel => Census {
-                heads,
-                types: types + 1,
-                names,
-                nodes,
+                types: self.types + 1,
                 room: 8,
+                ..*self
             },
             Class::Entry => Census {
-                heads,
-                types,
-                names,
-                nodes,
-                room: room - 1,
+                room: self.room - 1,
+                ..*self
             },
             Class::Name => Census {
-                heads,
-                types,
-                names: names + 1,
-                nodes,
+                names: self.names + 1,
                 room: 0,
+                ..*self
             },
             Class::Node => Census {
-                heads,
-                types,
-                names,
-                nodes: nodes + 1,
+                nodes: self.nodes + 1,
                 room: 0,
+                ..*self
             },
         }
     }
@@ -119,17 +93,13 @@ impl Scan {
         let place = self.place + 1;
         let kind = class(given);
         if self.wrong.is_some() {
-            return Scan {
-                place,
-                wrong: self.wrong,
-                census: self.census,
-            };
+            return Scan { place, ..*self };
         }
         if self.census.misplaces(kind) {
             return Scan {
                 place,
                 wrong: Some(self.place),
-                census: self.census,
+                ..*self
             };
         }
         Scan {

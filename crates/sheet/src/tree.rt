@@ -1,37 +1,47 @@
 //! The nodes as a tree: each child above its parent, and every node but 0 a child just once.
-ghost use Rattle.std.specs.Prelude.{◌≡◌, ℕ, ◌+◌, ◌<◌, ◌≤◌, true, not, ◌&&◌, ◌||◌, ◌++◌, length, ◌==◌, nat_lt, slice_index};
-ghost use Rattle.std.specs.Option.{option_to_list};
+ghost use Rattle.std.specs.Prelude.{◌≡◌, ℕ, ◌+◌, ◌<◌, ◌≤◌, true, not, ◌&&◌, ◌||◌, [], ◌∷◌, length, ◌==◌, nat_lt, slice_index};
 ghost use Rattle.fault.specs.First.{Lowest};
+ghost use Rattle.tables.specs.Encoding.{parts};
 ghost use Rattle.tables.specs.Range.{all};
 ghost use Rattle.sheet.specs.Tree.{children, times, named, misgrown};
 
+use fault::Items;
 use tables::tables::Node;
+use tables::tuple::Tuple;
 
 /// The numbers of the nodes that go on from a node: two at most.
-pub fn children_of(node: &Node) -> (Option<usize>, Option<usize>)
-    ensures { option_to_list result.0 ++ option_to_list result.1 ≡ children node.now }
+pub fn children_of(node: &Node) -> Tuple<u16>
+    ensures { parts result ≡ children node.now }
 {
     match node {
-        Node::Stop | Node::Send { .. } => (None, None),
+        Node::Stop | Node::Send { .. } => Tuple(None),
         Node::Receive { next, .. }
         | Node::Copy { next }
         | Node::New { next, .. }
         | Node::Begin { next, .. }
-        | Node::End { next, .. } => (Some(*next as usize), None),
-        Node::Both { first, second } => (Some(*first as usize), Some(*second as usize)),
-        Node::Test { same, other, .. } => (Some(*same as usize), Some(*other as usize)),
+        | Node::End { next, .. } => Tuple(Some(Items::One(*next))),
+        Node::Both { first, second } => Tuple(Some(Items::Two(*first, *second))),
+        Node::Test { same, other, .. } => Tuple(Some(Items::Two(*same, *other))),
     }
 }
 
-/// One more for a child, if there is one and it has a place.
-fn count_child(child: Option<usize>, counts: &mut [usize])
-    requires { (k : ℕ) → k < length counts.old → slice_index counts.old k ≤ 4096 }
-    ensures { (k : ℕ) → k < length counts.old → slice_index counts.new k ≡ slice_index counts.old k + times k (option_to_list child) }
+/// One more for a child, if it has a place.
+fn count_child(child: usize, counts: &mut [usize])
+    requires { (k : ℕ) → k < length counts.old → slice_index counts.old k ≤ 8192 }
+    ensures { (k : ℕ) → k < length counts.old → slice_index counts.new k ≡ slice_index counts.old k + times k (child ∷ []) }
 {
-    if let Some(c) = child
-        && c < counts.len()
-    {
-        counts[c] += 1;
+    if child < counts.len() {
+        counts[child] += 1;
+    }
+}
+
+/// One more for each of the children that has a place.
+fn count_each(children: Tuple<u16>, counts: &mut [usize])
+    requires { (k : ℕ) → k < length counts.old → slice_index counts.old k ≤ 4096 }
+    ensures { (k : ℕ) → k < length counts.old → slice_index counts.new k ≡ slice_index counts.old k + times k (parts children) }
+{
+    for child in children {
+        count_child(usize::from(child), counts);
     }
 }
 
@@ -42,25 +52,15 @@ fn count_children(nodes: &[Node], counts: &mut [usize])
     ensures { (k : ℕ) → k < length counts.old → slice_index counts.new k ≡ named nodes.now k }
 {
     for node in nodes {
-        let (first, second) = children_of(node);
-        count_child(first, counts);
-        count_child(second, counts);
+        count_each(children_of(node), counts);
     }
-}
-
-/// Whether a child, if there is one, stands above node `n`.
-fn is_above(child: Option<usize>, n: usize) -> bool
-    ensures { result ≡ all (λ c. nat_lt n c) (option_to_list child) }
-{
-    child.is_none_or(|c| n < c)
 }
 
 /// Whether node number `n`, which is named `count` times, has a child not above it or is not a child just once.
 fn is_misgrown(node: &Node, n: usize, count: usize) -> bool
     ensures { result ≡ (not (all (λ c. nat_lt n c) (children node.now)) || (nat_lt 0 n && not (count == 1))) }
 {
-    let (first, second) = children_of(node);
-    let above = is_above(first, n) && is_above(second, n);
+    let above = children_of(node).all(|c| n < usize::from(c));
     !above || (n > 0 && count != 1)
 }
 

@@ -1,3 +1,4 @@
 pub mod Equal
 pub mod Tabled
 pub mod Decoded
+pub mod Iterated

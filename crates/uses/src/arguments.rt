@@ -39,12 +39,7 @@ fn types_fit<C: Counting>(sheet: &OpenedSheet<C>, node: &Node) -> bool
 fn arguments_fit<C: Counting>(sheet: &OpenedSheet<C>, channel: u8, names: Tuple<u8>) -> bool
     ensures { Decides result (ArgumentsFit (C.Counting.operations sheet.now.counting) (types_of sheet.now.tables) channel (parts names)) }
 {
-    for place in 0..names.count() {
-        if !argument_fits(sheet, channel, names, place) {
-            return false;
-        }
-    }
-    true
+    (0..names.count()).all(|place| argument_fits(sheet, channel, names, place))
 }
 
 /// Whether the name at a place has the type that the channel requires there.

@@ -8,7 +8,7 @@ ghost use Rattle.uses.specs.Pairs.{SameHead, SameWithin};
 
 use crate::effects::same_effects;
 use crate::fill::fill_entries;
-use crate::lookup::{number_at, type_at};
+use crate::lookup::type_at;
 use counting::Counting;
 use tables::tables::{ChannelType, SheetType};
 use tables::tuple::Tuple;
@@ -32,10 +32,9 @@ pub(crate) fn same_type<C: Counting>(
     if !same_head(counting, arguments, level, &a, &b) {
         return false;
     }
-    let (lefts, rights) = (a.components(), b.components());
-    for place in 0..lefts.count() {
-        let component = number_at(&lefts, place);
-        let required = number_at(&rights, place);
+    let pairs = a.components().into_iter().zip(b.components());
+    for (component, required) in pairs {
+        let (component, required) = (usize::from(component), usize::from(required));
         if !same_type(counting, types, arguments, level + 1, component, required) {
             return false;
         }
