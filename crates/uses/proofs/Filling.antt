@@ -1,5 +1,6 @@
 -- Entries with arguments put in, one after another.
-use Rattle.std.proofs.Common.{◌≡◌, ℕ, ◌+◌, ◌<◌, ◌≤◌, List, [], ◌∷◌, ◌++◌, map, length, get_or, take, MatchResult, Result, Ok, Err, sym, ap, ◌∙◌, subst, ap₂, arith}
+use Rattle.std.proofs.Common.{◌≡◌, ℕ, ◌+◌, ◌<◌, ◌≤◌, List, [], ◌∷◌, ◌++◌, map, length, get_or, take, MatchResult, Result, Ok, Err, sym, refl, ap, ◌∙◌, subst, ap₂, arith}
+use mathlib.Core.Bool.{Bool-set}
 use Rattle.std.proofs.lemmas.List.{map_push, map_more, length-map, length-take-le}
 use Rattle.std.proofs.ByRecursion.{All-map}
 use Rattle.calculus.specs.Countings.{Operations}
@@ -40,3 +41,8 @@ module _ (ys : List ℕ) (level : ℕ) where
         small = subst (Small K) (sym value) (All-map (λ (e : calculus.Entry). e.amount ≤ K.largest) (fill_entry ys level) (map entry es) sound.small);
         placed = placed;
       }
+
+-- there is one proof at most that labels have positions
+pub placed_prop : (es : List Entry) (p q : Placed es) → p ≡ q
+placed_prop [] p q = refl
+placed_prop (e ∷ es) p q = ap₂ (λ a b. (a, b)) (Bool-set _ _ p.0 q.0) (placed_prop es p.1 q.1)

@@ -8,7 +8,7 @@ ghost use Rattle.meaning.specs.Failures.{FirstFailure};
 ghost use Rattle.meaning.specs.Types.{types_of};
 ghost use Rattle.meaning.specs.Uses.{ArgumentsFit, TypesFit};
 
-use crate::equal::same_type;
+use crate::equal::Comparison;
 use crate::lookup::{number_at, type_at};
 use counting::Counting;
 use sheet::OpenedSheet;
@@ -60,7 +60,7 @@ fn argument_fits<C: Counting>(
         SheetType::Channel(found) => {
             let earlier = names.first(place);
             let component = number_at(&found.components, place);
-            same_type(&sheet.counting(), types, &earlier, 1, own, component)
+            Comparison::new(&sheet.counting(), types, &earlier).is_same(1, own, component)
         }
     }
 }

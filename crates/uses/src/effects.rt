@@ -11,37 +11,52 @@ use fault::Label;
 use meaning::joined_for;
 use tables::tables::{Entry, Item};
 
-/// What the entries give a label: the amounts of those that have this label, joined.
-fn amount_at<C: Counting>(counting: &C, entries: &[Entry], label: &Label<Item>) -> u32
-    requires sound { SoundEntries (C.Counting.operations counting.now) entries.now }
-    requires placed { placed_label label.now ≡ true }
-    ensures { result ≡ entries_at (C.Counting.operations counting.now) (map meant.entry entries.now) (label_of meant.item label.now.items) }
-{
-    joined_for(counting, entries, label)
+/// A type's effect: its entries, whose amounts this counting can join and whose labels can be compared.
+#[derive(Drop)]
+pub(crate) struct Effect<'a, C: Counting> {
+    counting: &'a C,
+    entries: &'a [Entry],
+    ghost sound: { ∥ SoundEntries (C.Counting.operations counting.now) entries.now ∥₁ },
 }
 
-/// Whether two lists of entries give the same amounts to the labels of some entries.
-fn agree_on<C: Counting>(counting: &C, some: &[Entry], left: &[Entry], right: &[Entry]) -> bool
-    requires some { SoundEntries (C.Counting.operations counting.now) some.now }
-    requires left { SoundEntries (C.Counting.operations counting.now) left.now }
-    requires right { SoundEntries (C.Counting.operations counting.now) right.now }
-    ensures { Decides result (AllByRecursion (SameAmounts (C.Counting.operations counting.now) (map meant.entry left.now) (map meant.entry right.now)) (map meant.entry some.now)) }
-{
-    for entry in some {
-        let label = &entry.label;
-        if amount_at(counting, left, label) != amount_at(counting, right, label) {
-            return false;
-        }
+impl<'a, C: Counting> Effect<'a, C> {
+    /// The effect of these entries.
+    pub(crate) fn new(counting: &'a C, entries: &'a [Entry]) -> Effect<'a, C>
+        requires { ∥ SoundEntries (C.Counting.operations counting.now) entries.now ∥₁ }
+        ensures counting { result.counting.now ≡ counting.now }
+        ensures entries { result.entries.now ≡ entries.now }
+    {
+        Effect { counting, entries }
     }
-    true
-}
 
-/// Whether two lists of entries give the same amount to every label: it is enough to look at their own labels, since
-/// both give every other label nothing.
-pub(crate) fn same_effects<C: Counting>(counting: &C, left: &[Entry], right: &[Entry]) -> bool
-    requires left { SoundEntries (C.Counting.operations counting.now) left.now }
-    requires right { SoundEntries (C.Counting.operations counting.now) right.now }
-    ensures { Decides result (SameEffects (C.Counting.operations counting.now) (map meant.entry left.now) (map meant.entry right.now)) }
-{
-    agree_on(counting, left, left, right) && agree_on(counting, right, left, right)
+    /// What the entries give a label: the amounts of those that have this label, joined.
+    fn amount_at(&self, label: &Label<Item>) -> u32
+        requires { placed_label label.now ≡ true }
+        ensures { result ≡ entries_at (C.Counting.operations self.now.counting.now) (map meant.entry self.now.entries.now) (label_of meant.item label.now.items) }
+    {
+        joined_for(self.counting, self.entries, label)
+    }
+
+    /// Whether this effect and another give the same amounts to the labels of some entries.
+    fn agrees_on(&self, other: &Effect<'a, C>, some: &Effect<'a, C>) -> bool
+        requires { self.now.counting.now ≡ other.now.counting.now }
+        ensures { Decides result (AllByRecursion (SameAmounts (C.Counting.operations self.now.counting.now) (map meant.entry self.now.entries.now) (map meant.entry other.now.entries.now)) (map meant.entry some.now.entries.now)) }
+    {
+        for entry in some.entries {
+            let label = &entry.label;
+            if self.amount_at(label) != other.amount_at(label) {
+                return false;
+            }
+        }
+        true
+    }
+
+    /// Whether this effect and another give the same amount to every label: it is enough to look at their own labels,
+    /// since both give every other label nothing.
+    pub(crate) fn is_same(&self, other: &Effect<'a, C>) -> bool
+        requires { self.now.counting.now ≡ other.now.counting.now }
+        ensures { Decides result (SameEffects (C.Counting.operations self.now.counting.now) (map meant.entry self.now.entries.now) (map meant.entry other.now.entries.now)) }
+    {
+        self.agrees_on(other, self) && self.agrees_on(other, other)
+    }
 }

@@ -1,6 +1,6 @@
 use Rattle.std.proofs.Common.{ℕ, Bool, List, ◌≡◌, true, get_or, Decides, sym, ap, ◌∙◌, subst}
 use Rattle.calculus.specs.Countings.{Operations}
-use Rattle.calculus.specs.Types.{SameType, fill_type, required}
+use Rattle.calculus.specs.Types.{SameType, required}
 use Rattle.tables.specs.Channels.{components, entries}
 use Rattle.tables.specs.Elements.{elements}
 use Rattle.tables.specs.Encoding.{parts}
@@ -8,7 +8,7 @@ use Rattle.tables.specs.declared.tables.SheetType.{SheetType}
 use Rattle.tables.specs.declared.tables.SheetType.TheVariants.{Pure, Public}
 use Rattle.sheet.specs.Types.{type_at, nests}
 use Rattle.tables.specs.declared.tables.Tables.{Tables}
-use Rattle.meaning.specs.Types.{type_within, types_of}
+use Rattle.meaning.specs.Types.{types_of}
 use Rattle.uses.specs.Entries.{SoundEntries}
 use Rattle.uses.proofs.Opened.{sound_entries, component_nested}
 use Rattle.uses.proofs.Required.{number, fits_pure, fits_public, fits_channel}
@@ -20,8 +20,15 @@ by_sheet : (K : Operations) (t u : Tables) (r : Bool) (channel : ℕ) (ys : List
     → Decides r (SameType K (types_of u (get_or ys i 0)) (required (types_of u channel) ys i))
 by_sheet K t u r channel ys i e d = subst (λ v. Decides r (SameType K (types_of v (get_or ys i 0)) (required (types_of v channel) ys i))) e d
 
-pub same_type-requires : goal.same_type-requires
-same_type-requires g c =
+pub new-requires : goal.new-requires
+new-requires g c i =
+    let K = g.C.Counting.operations c.args.sheet.now.counting in
+    let t = c.tables-tables.result.now in
+    let sound = subst (λ xs. SoundEntries K (entries (type_at xs i))) (sym c.as_slice-types.ensures.value) (sound_entries K t c.tables-tables.ensures.sound i) in
+    subst (λ k. SoundEntries (g.C.Counting.operations k) (entries (type_at c.as_slice-types.result.now i))) (sym c.counting.ensures) sound
+
+pub is_same-requires : goal.is_same-requires
+is_same-requires g c =
     let K = g.C.Counting.operations c.args.sheet.now.counting in
     let t = c.tables-tables.result.now in
     let types = elements t.types in
@@ -29,10 +36,8 @@ same_type-requires g c =
     let at = c.type_number.result in
     let is = c.in-Channel.ensures ∙ ap (λ xs. type_at xs at) e in
     let component = c.number_at-component.ensures ∙ ap (λ (x : SheetType). get_or (components x) c.args.place 0) is in
-    record {
-      sound = λ i. subst (λ k. SoundEntries (g.C.Counting.operations k) (entries (type_at c.as_slice-types.result.now i))) (sym c.counting.ensures) (subst (λ xs. SoundEntries K (entries (type_at xs i))) (sym e) (sound_entries K t c.tables-tables.ensures.sound i));
-      shallow = subst (λ xs. nests xs 3 c.number_at-component.result ≡ true) (sym e) (subst (λ k. nests types 3 k ≡ true) (sym component) (component_nested K t c.tables-tables.ensures.sound at c.args.place));
-    }
+    let shallow = subst (λ k. nests types 3 k ≡ true) (sym component) (component_nested K t c.tables-tables.ensures.sound at c.args.place) in
+    subst (λ xs. nests xs 3 c.number_at-component.result ≡ true) (sym (c.new.ensures.types ∙ e)) shallow
 
 pub returns-in-Pure : goal.returns-in-Pure
 returns-in-Pure g c =
@@ -71,10 +76,7 @@ returns-in-Channel g c =
     let is = c.in-Channel.ensures ∙ ap (λ xs. type_at xs c.type_number.result) e ∙ ap (type_at types) (c.type_number.ensures ∙ ap (number t) c.from.ensures) in
     let component = c.number_at-component.result in
     let earlier = parts c.first-earlier.result in
-    let same =
-    subst (λ k. Decides c.same_type.result (SameType (g.C.Counting.operations k) (type_within c.as_slice-types.result.now 4 own) (fill_type earlier 1 (type_within c.as_slice-types.result.now 3 component))))
-    c.counting.ensures c.same_type.ensures in
-    by_sheet K t c.args.sheet.now.tables c.same_type.result c.args.channel (parts c.args.names) c.args.place c.tables-tables.ensures.value
-    (fits_channel K t c.same_type.result own c.args.channel (parts c.args.names) c.args.place has c.in-Channel.found earlier component is
-    c.first-earlier.ensures c.number_at-component.ensures
-    (subst (λ xs. Decides c.same_type.result (SameType K (type_within xs 4 own) (fill_type earlier 1 (type_within xs 3 component)))) e same))
+    let same = rw (c.new.ensures.counting, c.new.ensures.types, c.new.ensures.arguments, c.counting.ensures, e) at c.is_same.ensures in
+    by_sheet K t c.args.sheet.now.tables c.is_same.result c.args.channel (parts c.args.names) c.args.place c.tables-tables.ensures.value
+    (fits_channel K t c.is_same.result own c.args.channel (parts c.args.names) c.args.place has c.in-Channel.found earlier component is
+    c.first-earlier.ensures c.number_at-component.ensures same)
