@@ -38,6 +38,3 @@ filled_more f vs n a h inv e m l =
     (λ p. ap (λ k. get_or (set vs n a) k 0) p ∙ get_or-set_same vs n a 0 h ∙ e ∙ ap f (sym p))
     (λ p. get_or-set_other vs n m a 0 p ∙ inv m (omega arith))
     (cases_eq m n)
-
-pub below_ceiling : {x y b : ℕ} → x ≡ y → y ≤ b → x ≤ b
-below_ceiling e h = omega arith

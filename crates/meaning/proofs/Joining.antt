@@ -24,7 +24,7 @@ module _ (K : Operations) (W : Laws K) {A : Type 0} (f : A → ℕ) where
   first_below (x ∷ xs) (suc i) = join_monotone K W (le_refl (f x)) (first_below xs i)
 
 -- no more than a bound, by an equation
-below_bound : {x y b : ℕ} → x ≡ y → y ≤ b → x ≤ b
+pub below_bound : {x y b : ℕ} → x ≡ y → y ≤ b → x ≤ b
 below_bound e h = omega arith
 
 -- a share gives a label one amount

@@ -1,7 +1,8 @@
 use Rattle.std.proofs.Common.{◌≡◌, ℕ, ◌-◌, ◌<◌, length, get_or, sym, ◌∙◌, arith, length-set}
 use Rattle.std.proofs.lemmas.List.{length-replicate}
+use Rattle.meaning.proofs.Joining.{below_bound}
 use Rattle.effects.proofs.Lists.{all_same}
-use Rattle.effects.proofs.Steps.{amount_past, amount_from, filled_more, below_ceiling}
+use Rattle.effects.proofs.Steps.{amount_past, amount_from, filled_more}
 use Rattle.effects.proofs.work.Work.amounts_at.Goals as goal
 
 pub loop-n-init : goal.loop-n-init
@@ -24,5 +25,5 @@ loop-n-preserved g c =
           let after : (m : ℕ) → n < m → get_or c.loop-n.amounts m 0 ≡ A m = λ m l. c.loop-n.invariant.1 A a m (omega arith) in
           let same = amount_from K nodes rows L A a c.loop-n.amounts n within after in
           filled_more A c.loop-n.amounts n c.node_amount.result (omega (arith, c.args.self.now.few, c.loop-n.invariant.0)) after
-          (c.node_amount.ensures (a.own_fits n within) (below_ceiling same (a.fits n)) ∙ same),
+          (c.node_amount.ensures (a.own_fits n within) (below_bound same (a.fits n)) ∙ same),
     )
