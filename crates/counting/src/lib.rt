@@ -19,7 +19,8 @@ pub trait Counting: Copy {
 
     ghost operations: { Self → Operations };
 
-    /// The number by which a sheet's head asks for this counting.
+    /// The number by which a sheet's head asks for this counting. A byte of the file, and no enum: each counting claims
+    /// its own, and none knows the others.
     fn code(&self) -> u8
         ensures { result ≡ tag self.now };
 

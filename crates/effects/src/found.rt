@@ -13,7 +13,8 @@ pub struct Found {
     pub amount: u32,
 }
 
-/// Whether one fault is told before another: the higher node first, the root last, and at one place the lower label.
+/// Whether one fault is told before another: the higher node first, the root last, and at one place the lower label. No
+/// derived order does that: it would put the lower node first, and compare the amounts too.
 fn comes_sooner(one: &Found, other: &Found) -> bool
     ensures { result ≡ sooner one.now other.now }
 {

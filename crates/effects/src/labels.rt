@@ -31,7 +31,7 @@ fn order_key(label: &Label<u8>) -> [u16; 4]
 }
 
 /// Whether one label comes before another: the first items that differ decide, and a missing item comes after every
-/// item.
+/// item. A derived order would put it before them, and two counts apart from one another.
 pub(crate) fn is_before(left: &Label<u8>, right: &Label<u8>) -> bool
     ensures { result ≡ label_before left.now right.now }
 {

@@ -28,6 +28,7 @@ pub fn line_of(bytes: &[u8]) -> Line
     if bytes.len() > LIMIT {
         return Line::Refused(Fault::WrongOrder(0));
     }
+    // Two arms and no value of both kinds: what follows is generic, and compiled for each counting.
     match choose(bytes) {
         Chosen::Parts(parts) => line_by(parts, bytes),
         Chosen::Once(once) => line_by(once, bytes),

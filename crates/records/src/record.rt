@@ -6,7 +6,8 @@ ghost use Rattle.records.specs.Records.{codes, Unreadable, NoRecord};
 #[derive(Clone, Copy, PartialEq, Eq, Debug)]
 pub struct Quad(pub u8, pub u8, pub u8, pub u8);
 
-/// A record with the fields of its body, in the order of the bytes.
+/// A record with the fields of its body, in the order of the bytes. They are the file's numbers as they stand there, the
+/// code of a counting among them: what they mean is found out later.
 #[derive(Clone, Copy, PartialEq, Eq, Debug)]
 pub enum Record {
     Head {

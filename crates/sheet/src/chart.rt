@@ -12,7 +12,8 @@ use fault::Items;
 use tables::tables::Node;
 use tables::tuple::Tuple;
 
-/// For each name the lowest node that binds it, and for each number the lowest node that has it as a child.
+/// For each name the lowest node that binds it, and for each number the lowest node that has it as a child. Arrays by
+/// number, since nothing here may allocate.
 #[derive(Drop)]
 pub struct Chart {
     binders: [Option<usize>; 64],

@@ -120,6 +120,7 @@ fn add(tables: &mut Tables, given: Record, limits: Limits) -> Option<()>
     requires { Room tables.old (class_of given) }
     ensures { MatchOption result (Fits limits.basis (totals_of limits.totals) (length (elements tables.old.types)) given → ⊥) (λ _. Grown limits.basis (totals_of limits.totals) tables.old tables.new given) }
 {
+    // No function is chosen here that is called later: the classes are few, and each has its own `requires`.
     match class(given) {
         Class::Head => None,
         Class::Plain | Class::Channel => add_type(tables, given, limits),
@@ -155,6 +156,7 @@ pub fn fill(bytes: &[u8], basis: Basis, totals: Census) -> Result<Tables, Fault>
     }
     let limits = Limits { basis, totals };
     let mut tables = Tables::new();
+    // The place is counted along with the bytes that are left: what `read` gives is no iterator, as it may stop short.
     let mut place = 1;
     let mut left = rest;
     while !left.is_empty() {

@@ -7,7 +7,8 @@ use crate::census::{Census, Class, Scan};
 use fault::Fault;
 use records::record::{Record, read};
 
-/// What a record is to the order.
+/// What a record is to the order. A function and no `From`: it forgets what the record says, and its contract reads more
+/// plainly than a member of a trait.
 pub fn class(given: Record) -> Class
     ensures { result ≡ class_of given }
 {

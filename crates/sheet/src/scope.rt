@@ -47,7 +47,8 @@ impl TreeChart<'_> {
         false
     }
 
-    /// Whether a node with a number lower than `n` binds the name.
+    /// Whether a node with a number lower than `n` binds the name. One of two facts of a name's binder; the other,
+    /// `is_outside`, goes up the tree.
     fn is_taken(&self, name: u8, n: usize) -> bool
         ensures { Decides result (Taken self.now.chart.now.binders n name) }
     {

@@ -83,6 +83,7 @@ pub fn first_misgrown(nodes: &[Node]) -> Option<usize>
     requires { length nodes.now ≤ 1024 }
     ensures { Lowest (λ n. misgrown nodes.now n ≡ true) (length nodes.now) result }
 {
+    // An array by number, since nothing here may allocate.
     let mut counts = [0; 1024];
     count_children(nodes, &mut counts);
     find_misgrown(nodes, &counts)

@@ -13,7 +13,8 @@ use crate::tuple::Tuple;
 use fault::{Items, Label};
 use records::record::{Quad, Record};
 
-/// The bytes that are used, at least one; none where a byte stands after one that is not used.
+/// The bytes that are used, at least one; none where a byte stands after one that is not used. The forms are written out:
+/// which of them it is, is what the bytes say.
 fn used(bytes: Quad) -> Option<Items<u8>>
     ensures value { result ≡ decoding.used bytes }
     ensures back { IfSome result (λ xs. spread (list xs) ≡ bytes) }

@@ -3,7 +3,7 @@ ghost use Rattle.std.specs.Prelude.{◌≡◌, ◌<◌, ◌≤◌, [], ◌∷◌
 
 use std::alloc::AllocError;
 
-/// At most N things in order: the first `count` of the places.
+/// At most N things in order: the first `count` of the places. A place of fixed size, since nothing here may allocate.
 pub struct Table<T, const N: usize> {
     items: [T; N],
     count: usize,

@@ -122,7 +122,8 @@ impl Tables {
         }
     }
 
-    /// The number of a name's type; one past the last type where there is no such name.
+    /// The number of a name's type; one past the last type where there is no such name. A number and no `Option`: past the
+    /// last type every reader finds the pure one, so that each would unwrap it into that number.
     pub fn type_number(&self, name: usize) -> usize
         ensures { result ≡ slice_index_or (elements self.now.names) name (length (elements self.now.types)) }
     {

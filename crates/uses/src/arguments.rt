@@ -65,14 +65,14 @@ fn argument_fits<C: Counting>(
     }
 }
 
-/// Whether a type is pure.
+/// Whether a type is pure. A pattern and no `==`: the table of a channel's entries cannot be compared.
 fn is_pure(given: &SheetType) -> bool
     ensures { Decides result (given.now ≡ SheetType.Pure) }
 {
     matches!(given, SheetType::Pure)
 }
 
-/// Whether a type is public.
+/// Whether a type is public, by a pattern too.
 fn is_public(given: &SheetType) -> bool
     ensures { Decides result (given.now ≡ SheetType.Public) }
 {
