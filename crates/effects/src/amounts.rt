@@ -11,7 +11,7 @@ use fault::Label;
 use meaning::joined_for;
 use tables::tables::Node;
 
-/// The amount of a node; 0 past the last.
+/// The amount of a node; 0 past the last, which is what a node that is not there needs, so no `Option`.
 pub(crate) fn amount_in(amounts: &[u32; 1024], node: usize) -> u32
     ensures { result ≡ slice_index amounts.now node }
 {
@@ -19,6 +19,9 @@ pub(crate) fn amount_in(amounts: &[u32; 1024], node: usize) -> u32
 }
 
 impl<'a, C: Counting> Work<'a, C> {
+    // That there is a node `n` is asked by each: `n` is a number from a loop over the nodes, and a type that held this would
+    // have to lend the nodes too.
+
     /// The rows of a node.
     pub(crate) fn node_rows(&self, n: usize) -> &[Row]
         requires { n < length self.now.nodes.now }
@@ -70,6 +73,7 @@ impl<'a, C: Counting> Work<'a, C> {
     pub(crate) fn amounts_at(&self, label: &Label<u8>) -> [u32; 1024]
         ensures { (A : ℕ → ℕ) → Amounts (C.Counting.operations self.now.counting.now) self.now.nodes.now self.now.rows.now label.now A → (n : ℕ) → slice_index result n ≡ A n }
     {
+        // An array by number, since nothing here may allocate.
         let mut amounts = [0; 1024];
         // By numbers: what is written at a node's number is made of what stands at its children's.
         for n in (0..self.nodes.len()).rev() {

@@ -18,6 +18,9 @@ use fault::{Fault, Label};
 use sheet::chart::names_bound;
 use tables::tables::Node;
 
+// Each of these speaks of amounts that the counting can hold, as its `join` does. A type for such amounts would be one for
+// each counting, and its number would be taken out at every step. A label and its amounts stay two where both are handed on.
+
 /// Whether an amount joined with itself is itself.
 fn is_copyable<C: Counting>(counting: &C, amount: u32) -> bool
     ensures { amount ≤ (C.Counting.operations counting.now).ceiling → result ≡ ((C.Counting.operations counting.now).join amount amount == amount) }
@@ -70,6 +73,9 @@ impl<'a, C: Counting> Work<'a, C> {
             amount,
         })
     }
+
+    // `A` names the amounts of all labels, which only the proof can hold: that they are the amounts is said anew in each of
+    // these, as a field could hold it of no more than one label.
 
     /// The first fault of the labels so far and this one.
     fn try_label(&self, label: &Label<u8>, best: Option<Found>) -> Option<Found>

@@ -15,10 +15,7 @@ fn order_at(label: &Label<u8>, place: usize) -> u16
     ensures value { result ≡ unwrap_or (nth (list label.now.items) place) 256 }
     ensures small { IfSome (nth (list label.now.items) place) (λ x. x < 256) }
 {
-    match label.items.get(place) {
-        Some(item) => u16::from(item),
-        None => 256,
-    }
+    label.items.get(place).map_or(256, u16::from)
 }
 
 /// The four numbers that a label is ordered by.

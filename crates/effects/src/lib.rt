@@ -40,6 +40,7 @@ pub fn judge_effects<C: Counting>(sheet: &OpenedSheet<C>, rows: &mut [Row]) -> R
         clear_rows(rows);
         return Err(Fault::FewRows);
     }
+    // The frame of `amount_of` again: a closure for what differs would need a contract longer than the frame.
     let tables = sheet.tables();
     prepare(sheet, rows);
     let first = Work::new(&sheet.counting(), tables, rows).first_fault();

@@ -17,7 +17,7 @@ use tables::tuple::Tuple;
 /// A work row: so much for a label of names.
 pub type Row = Share<u8>;
 
-/// A row of nothing.
+/// A row of nothing: what stands in a row that is not used. No `Option`: the rows are lent, so many bytes each.
 fn blank_row() -> Row
     ensures { result ≡ blank }
 {
@@ -29,14 +29,16 @@ fn blank_row() -> Row
     }
 }
 
-/// Sets all rows to zero.
+/// Sets all rows to zero. That they are zero again is promised by each public call to which rows are lent, as they stay the
+/// caller's.
 pub fn clear_rows(rows: &mut [Row])
     ensures { rows.new ≡ replicate (length rows.old) blank }
 {
     rows.fill(blank_row());
 }
 
-/// The name that an item stands for, once the names are put in; 0 past the last name.
+/// The name that an item stands for, once the names are put in; 0 past the last name, as the rules' own look-up has it, and
+/// so no `Option`.
 fn put_in(names: &Tuple<u8>, item: Item) -> u8
     ensures { result ≡ name_of (parts names.now) (item_of item) }
 {

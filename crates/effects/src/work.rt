@@ -8,7 +8,8 @@ use tables::tables::{Node, Tables};
 /// How many rows a node has.
 pub(crate) const ROWS: usize = 8;
 
-/// A counting, the nodes of a sheet, and their work rows: eight a node, in the order of the nodes.
+/// A counting, the nodes of a sheet, and their work rows: eight a node, in the order of the nodes. The rows stand beside the
+/// nodes, as the caller lends them.
 #[derive(Drop)]
 pub(crate) struct Work<'a, C> {
     pub(crate) counting: &'a C,

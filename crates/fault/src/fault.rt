@@ -107,6 +107,7 @@ impl Fault {
     pub fn layer(&self) -> Layer
         ensures { result ≡ layer_of self.now }
     {
+        // By numbers, since the layers are ranges of them; the cases again, one by one, would be no plainer.
         match self.number() {
             0..=6 => Layer::Sheet,
             7..=14 => Layer::Judge,

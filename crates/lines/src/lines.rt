@@ -65,8 +65,8 @@ impl fmt::Display for About {
     }
 }
 
-/// Names in decimal, joined by full stops. Each count has its text, as it is printed: the items are no slice that could
-/// be joined, and a loop over their places would count an index by hand.
+/// Names in decimal, joined by full stops. Each count has its text, as it is printed: going over the items would be no
+/// plainer, since a full stop stands between them and not after each.
 #[derive(Clone, Copy)]
 struct Dotted(Items<u8>);
 

@@ -36,10 +36,7 @@ fn mark(names: &Tuple<u8>, count: usize, marks: &mut [bool])
 fn bound_at(nodes: &[Node], n: usize) -> Tuple<u8>
     ensures { parts result ≡ binds (node_at nodes.now n) }
 {
-    match nodes.get(n) {
-        Some(node) => names_bound(node),
-        None => Tuple(None),
-    }
+    nodes.get(n).map_or(Tuple(None), names_bound)
 }
 
 /// Whether `x` stands at a place of the names.
@@ -85,6 +82,8 @@ impl<'a> Charted<'a> {
         }
         marks
     }
+
+    // `x < 64` is asked here and in two functions more: it is what the search through the names knows of a name's number.
 
     /// The names that the type of `x` may mention: those in scope where it is bound, and those earlier in the same
     /// receive; for a free name, the free names.

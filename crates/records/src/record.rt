@@ -2,7 +2,8 @@
 ghost use Rattle.std.specs.Prelude.{◌≡◌, ◌++◌, MatchOption};
 ghost use Rattle.records.specs.Records.{codes, Unreadable, NoRecord};
 
-/// Four bytes as they stand in a record; those that are not used stand last and hold 255.
+/// Four bytes as they stand in a record; those that are not used stand last and hold 255, and the count is a byte beside
+/// them. Both are the file's: what they mean, a tuple, is made of them later.
 #[derive(Clone, Copy, PartialEq, Eq, Debug)]
 pub struct Quad(pub u8, pub u8, pub u8, pub u8);
 

@@ -58,6 +58,9 @@ fn entry_in(given: Record, limits: Limits) -> Option<Entry>
     entry_fits(limits.basis.largest, limits.totals.names, &made).then_some(made)
 }
 
+// `tables`, a record and `limits` stay three here: the first change, the second is taken apart, the third is read; a struct
+// of them would be made once and taken apart at once.
+
 /// The type of a record, at the end of the types; none where it is out of range.
 fn add_type(tables: &mut Tables, given: Record, limits: Limits) -> Option<()>
     requires { length (elements tables.old.types) < 64 }
@@ -156,7 +159,8 @@ pub fn fill(bytes: &[u8], basis: Basis, totals: Census) -> Result<Tables, Fault>
     }
     let limits = Limits { basis, totals };
     let mut tables = Tables::new();
-    // The place is counted along with the bytes that are left: what `read` gives is no iterator, as it may stop short.
+    // The place is counted along with the bytes that are left: an iterator of what `read` gives would be a type with laws of
+    // its own, for two loops (this one and that of `scan`) that both end at the first refusal.
     let mut place = 1;
     let mut left = rest;
     while !left.is_empty() {

@@ -60,7 +60,7 @@ fn one_stop() -> Tables
     tables
 }
 
-/// What a counting asks of a sheet.
+/// What a counting asks of a sheet. No `From`: `Basis` is another crate's, and every counting is a type of its own.
 fn basis_of<C: Counting>(counting: &C) -> Basis
     ensures { result ≡ basis_of (C.Counting.tag counting.now) (C.Counting.operations counting.now) }
 {

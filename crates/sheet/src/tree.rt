@@ -45,6 +45,9 @@ fn count_each(children: Tuple<u16>, counts: &mut [usize])
     }
 }
 
+// That there are at most 1,024 nodes is what `Table<Node, 1024>` holds; these functions ask it of a slice, which their loops
+// go over and from which they take.
+
 /// How often each number that has a place is named as a child.
 fn count_children(nodes: &[Node], counts: &mut [usize])
     requires few { length nodes.now ≤ 1024 }

@@ -47,24 +47,23 @@ fn nests_within(types: &[SheetType], levels: usize, at: usize) -> bool
         )
 }
 
+// Types and a number among them stay two, here and above: the number changes at each level down, and a pair of both would
+// be made and taken apart at each.
+
 /// The components of type `at`, by their numbers; none where there is no such type.
 pub fn components_of(types: &[SheetType], at: usize) -> Tuple<u8>
     ensures { parts result ≡ components (type_at types.now at) }
 {
-    match types.get(at) {
-        Some(found) => found.components(),
-        None => Tuple(None),
-    }
+    types
+        .get(at)
+        .map_or(Tuple(None), |found| found.components())
 }
 
 /// The entries of type `at`; none where there is no such type.
 pub fn entries_of(types: &[SheetType], at: usize) -> &[Entry]
     ensures { result.now ≡ entries (type_at types.now at) }
 {
-    match types.get(at) {
-        Some(found) => found.entries(),
-        None => &[],
-    }
+    types.get(at).map_or(&[], |found| found.entries())
 }
 
 /// Whether two of the entries have one label.

@@ -1,19 +1,10 @@
 //! Whether fields are in range.
 ghost use Rattle.std.specs.Prelude.{◌≡◌};
-ghost use Rattle.fault.specs.Items.{list};
 ghost use Rattle.tables.specs.Encoding.{parts};
 ghost use Rattle.tables.specs.Range as range;
 
 use crate::tables::{Entry, Item, Node};
 use crate::tuple::Tuple;
-use fault::Items;
-
-/// Whether each number is below `limit`.
-fn items_below(limit: usize, items: &Items<u8>) -> bool
-    ensures { result ≡ range.below limit (list items.now) }
-{
-    items.all(|x| usize::from(x) < limit)
-}
 
 /// Whether each number is below `limit`.
 pub fn tuple_below(limit: usize, tuple: &Tuple<u8>) -> bool
@@ -71,7 +62,7 @@ pub fn node_fits(names: usize, nodes: usize, node: &Node) -> bool
                 && usize::from(other) < nodes
         }
         Node::Begin { label, next } | Node::End { label, next } => {
-            items_below(names, &label.items) && usize::from(next) < nodes
+            label.items.all(|name| usize::from(name) < names) && usize::from(next) < nodes
         }
     }
 }

@@ -89,7 +89,8 @@ pub enum Node {
     },
 }
 
-/// The tables of a sheet. Types, names and nodes are numbered from 0; a name is held as the number of its type.
+/// The tables of a sheet. Types, names and nodes are numbered from 0; a name is held as the number of its type. The
+/// numbers are the file's own, and lists of fixed room hold what they number, since nothing here may allocate.
 #[derive(Clone, Copy)]
 pub struct Tables {
     pub types: Table<SheetType, 64>,
@@ -127,10 +128,8 @@ impl Tables {
     pub fn type_number(&self, name: usize) -> usize
         ensures { result ≡ slice_index_or (elements self.now.names) name (length (elements self.now.types)) }
     {
-        match self.names.as_slice().get(name) {
-            Some(number) => usize::from(*number),
-            None => self.types.len(),
-        }
+        let found = self.names.as_slice().get(name);
+        found.map_or(self.types.len(), |number| usize::from(*number))
     }
 }
 

@@ -45,6 +45,8 @@ impl<'a, C: Counting> Comparison<'a, C> {
         }
     }
 
+    // The level and the two types are no fields: all three are others at each step into the types.
+
     /// Whether type `left` is type `right` with the arguments put in at this level, as a component of a channel has it
     /// at level 1: their heads are the same, and so are their components in turn, one level further in.
     pub(crate) fn is_same(&self, level: usize, left: usize, right: usize) -> bool
@@ -77,6 +79,7 @@ impl<'a, C: Counting> Comparison<'a, C> {
                 a.components.count() == b.components.count()
                     && self.has_same_effect(level, left, right)
             }
+            // Two types of one kind: a pair of patterns, and the derived `==` would compare more than the kind.
             _ => false,
         }
     }

@@ -13,7 +13,7 @@ pub(crate) fn type_at(types: &[SheetType], at: usize) -> SheetType
     types.get(at).copied().unwrap_or(SheetType::Pure)
 }
 
-/// The number at a place; 0 past the last.
+/// The number at a place; 0 past the last, as the rules' own look-up has it, and so no `Option`.
 pub(crate) fn number_at(numbers: &Tuple<u8>, place: usize) -> usize
     ensures { result ≡ slice_index (parts numbers.now) place }
 {
