@@ -10,7 +10,8 @@ ghost use Rattle.meaning.specs.Types.{type_within, types_of};
 use crate::charted::Charted;
 use tables::tables::SheetType;
 
-/// Whether type `at` is public; it is not where there is no such type.
+/// Whether type `at` is public; it is not where there is no such type. One pattern, as in `uses`: that one is of a type, this
+/// of a number that may have none.
 fn is_public_at(types: &[SheetType], at: usize) -> bool
     ensures { Decides result (type_within types.now 4 at ≡ public) }
 {
