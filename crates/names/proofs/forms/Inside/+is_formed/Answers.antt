@@ -42,9 +42,9 @@ returns-then-not-is_formed t c =
     let inner = parts c.components_of-inner.result in
     let cs = components (type_at types c.args.at) in
     let same = pushed_outer levels place c.args.self.now.counts c.pushed-in-loop-place.result.counts c.if-levels-eq0.false c.requires c.pushed-in-loop-place.ensures.size c.pushed-in-loop-place.ensures.each in
-    let tested = component_tested c.pushed-in-loop-place.result.scope.now c.args.self.now.scope.now c.pushed-in-loop-place.ensures.scope (outer c.pushed-in-loop-place.result.counts) before place (type_within types (levels - 1) c.unwrap-component.result) c.is_formed.result same c.is_formed.ensures in
-    let here = component_at inner cs place c.unwrap-component.result (sym c.unwrap-component.ensures ∙ c.get.ensures) c.components_of-inner.ensures in
-    let within : place < length cs = omega (arith, nth_within inner place c.unwrap-component.result (sym c.unwrap-component.ensures ∙ c.get.ensures), ap length c.components_of-inner.ensures) in
+    let tested = component_tested c.pushed-in-loop-place.result.scope.now c.args.self.now.scope.now c.pushed-in-loop-place.ensures.scope (outer c.pushed-in-loop-place.result.counts) before place (type_within types (levels - 1) c.from-component.result) c.is_formed.result same c.is_formed.ensures in
+    let here = c.from-component.ensures ∙ component_at inner cs place c.unwrap.result (sym c.unwrap.ensures ∙ c.get.ensures) c.components_of-inner.ensures in
+    let within : place < length cs = omega (arith, nth_within inner place c.unwrap.result (sym c.unwrap.ensures ∙ c.get.ensures), ap length c.components_of-inner.ensures) in
     fails (λ h. not_from_Decides c.is_formed.result tested c.if-not-is_formed.true
     (subst (λ k. WellFormedInside Γ (push place before) (type_within types (levels - 1) k)) (sym here) (formed_components types levels c.args.at c.if-levels-eq0.false Γ before h place within)))
 
@@ -58,8 +58,8 @@ loop-place-preserved t c =
     let inner = parts c.components_of-inner.result in
     let cs = components (type_at types c.args.at) in
     let same = pushed_outer levels place c.args.self.now.counts c.pushed-in-loop-place.result.counts c.if-levels-eq0.false c.requires c.pushed-in-loop-place.ensures.size c.pushed-in-loop-place.ensures.each in
-    let tested = component_tested c.pushed-in-loop-place.result.scope.now c.args.self.now.scope.now c.pushed-in-loop-place.ensures.scope (outer c.pushed-in-loop-place.result.counts) before place (type_within types (levels - 1) c.unwrap-component.result) c.is_formed.result same c.is_formed.ensures in
-    let here = component_at inner cs place c.unwrap-component.result (sym c.unwrap-component.ensures ∙ c.get.ensures) c.components_of-inner.ensures in (
+    let tested = component_tested c.pushed-in-loop-place.result.scope.now c.args.self.now.scope.now c.pushed-in-loop-place.ensures.scope (outer c.pushed-in-loop-place.result.counts) before place (type_within types (levels - 1) c.from-component.result) c.is_formed.result same c.is_formed.ensures in
+    let here = c.from-component.ensures ∙ component_at inner cs place c.unwrap.result (sym c.unwrap.ensures ∙ c.get.ensures) c.components_of-inner.ensures in (
       c.loop-place.invariant.0,
       below_more (λ i. WellFormedInside Γ (push i before) (type_within types (levels - 1) (get_or cs i 0))) place c.loop-place.invariant.1
           (subst (λ k. WellFormedInside Γ (push place before) (type_within types (levels - 1) k)) here (tested.0 c.if-not-is_formed.false)),
