@@ -79,10 +79,12 @@ impl<'a> Inside<'a> {
         {
             return false;
         }
-        // By places: as many arguments come before a component as its place says.
-        for place in 0..inner.count() {
-            let component = usize::from(inner.get(place).unwrap());
-            if !self.pushed(place).is_formed(types, levels - 1, component) {
+        // As many arguments come before a component as its place says.
+        for (place, component) in inner.into_iter().enumerate() {
+            if !self
+                .pushed(place)
+                .is_formed(types, levels - 1, usize::from(component))
+            {
                 return false;
             }
         }
