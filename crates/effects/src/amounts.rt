@@ -48,22 +48,23 @@ impl<'a, C: Counting> Work<'a, C> {
             Node::Send { .. } => self.own_amount(n, label),
             Node::Receive { next, .. } | Node::Begin { next, .. } => {
                 let own = self.own_amount(n, label);
-                self.counting.lack(amount_in(amounts, next as usize), own)
+                self.counting
+                    .lack(amount_in(amounts, usize::from(next)), own)
             }
             Node::End { next, .. } => {
                 let own = self.own_amount(n, label);
                 self.counting
-                    .join_or_zero(amount_in(amounts, next as usize), own)
+                    .join_or_zero(amount_in(amounts, usize::from(next)), own)
             }
             Node::Both { first, second } => {
                 self.counting.join_or_zero(
-                    amount_in(amounts, first as usize),
-                    amount_in(amounts, second as usize),
+                    amount_in(amounts, usize::from(first)),
+                    amount_in(amounts, usize::from(second)),
                 )
             }
-            Node::Copy { next } | Node::New { next, .. } => amount_in(amounts, next as usize),
+            Node::Copy { next } | Node::New { next, .. } => amount_in(amounts, usize::from(next)),
             Node::Test { same, other, .. } => {
-                amount_in(amounts, same as usize).max(amount_in(amounts, other as usize))
+                amount_in(amounts, usize::from(same)).max(amount_in(amounts, usize::from(other)))
             }
         }
     }

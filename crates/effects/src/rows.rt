@@ -45,7 +45,7 @@ fn put_in(names: &Tuple<u8>, item: Item) -> u8
     match item {
         Item::Name(name) => name,
         Item::Index { position, .. } => names
-            .get((position as usize).saturating_sub(1))
+            .get(usize::from(position).saturating_sub(1))
             .unwrap_or(0),
     }
 }

@@ -1,11 +1,10 @@
 -- Well-formed types, item by item, entry by entry and component by component.
-use Rattle.std.proofs.Common.{◌≡◌, ℕ, zero, suc, ◌-◌, ◌<◌, Bool, true, false, ◌&&◌, ltb, List, [], ◌∷◌, map, length, get_or, replicate, Some, Decides, sym, refl, ap, ◌∙◌, subst, ⊎_elim, arith}
+use Rattle.std.proofs.Common.{◌≡◌, ℕ, zero, suc, ◌-◌, ◌<◌, Bool, true, false, ◌&&◌, ltb, List, [], ◌∷◌, map, length, get_or, replicate, Decides, sym, refl, ap, ◌∙◌, subst, ⊎_elim, arith}
 use Rattle.std.specs.List.{AllByRecursion}
 use Rattle.std.proofs.ByRecursion.{All-map, All-weaker}
 use Rattle.std.proofs.lemmas.List.{get_or_past, get_or-replicate}
 use Rattle.std.proofs.lemmas.Bool.{false≢true, cases_lt, le-ltb}
 use Rattle.std.proofs.lemmas.Bool.Decides.{Decides-like}
-use Rattle.fault.specs.Items.{nth}
 use Rattle.calculus.specs.Labels.{items}
 use Rattle.calculus.specs.Scopes.{Scope, in_scope, push, WellFormedItem, WellFormedEntry, WellFormedInside, WellFormed, outermost}
 use Rattle.calculus.specs.Types as calculus
@@ -79,11 +78,6 @@ holds p = (λ _. p, λ _. refl)
 pub fails : {P : Type 0} → (P → ⊥) → Decides false P
 fails away = (λ e. absurd (false≢true e), λ p. absurd (away p))
 
-nth_get_or : (xs : List ℕ) (i x : ℕ) → Some x ≡ nth xs i → get_or xs i 0 ≡ x
-nth_get_or [] i x e = let z : ◌≡◌ {A = ℕ} 0 1 = cc in absurd (omega arith)
-nth_get_or (y ∷ ys) zero x e = cc
-nth_get_or (y ∷ ys) (suc i) x e = nth_get_or ys i x e
-
 -- counts one level further in
 module _ (levels n : ℕ) (counts inner : List ℕ) (some : levels ≡ 0 → ⊥) (given : Counts levels counts) (size : length inner ≡ 4)
     (each : (u : ℕ) → u < 4 → outer inner u ≡ push n (outer counts) u) where
@@ -139,10 +133,6 @@ component_tested next scope e b d i t r s h =
     let Γ = marked scope in
     Decides-like r (same_inside Γ Γ (λ y. refl) b (push i d) s t) (same_inside Γ Γ (λ y. refl) (push i d) b (λ u. sym (s u)) t)
     (subst (λ l. Decides r (WellFormedInside (marked l) b t)) e h)
-
--- the component at a place
-pub component_at : (xs ys : List ℕ) (i x : ℕ) → Some x ≡ nth xs i → xs ≡ ys → x ≡ get_or ys i 0
-component_at xs ys i x e s = sym (nth_get_or xs i x e) ∙ ap (λ zs. get_or zs i 0) s
 
 -- marks of a scope are as good as the scope
 pub marks_in : (marks : List Bool) (Γ : Scope) → Marks marks Γ → (y : ℕ) → in_scope (marked marks) y ≡ in_scope Γ y

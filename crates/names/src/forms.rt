@@ -41,11 +41,11 @@ impl<'a> Inside<'a> {
         match item {
             Item::Name(name) => {
                 let scope = self.scope;
-                scope.get(name as usize).copied().unwrap_or(false)
+                scope.get(usize::from(name)).copied().unwrap_or(false)
             }
             Item::Index { arrows, position } => {
-                let before = self.counts.get(arrows as usize).copied().unwrap_or(0);
-                (position as usize).saturating_sub(1) < before
+                let before = self.counts.get(usize::from(arrows)).copied().unwrap_or(0);
+                usize::from(position).saturating_sub(1) < before
             }
         }
     }
@@ -79,10 +79,12 @@ impl<'a> Inside<'a> {
         {
             return false;
         }
-        // By places: as many arguments come before a component as its place says.
-        for place in 0..inner.count() {
-            let component = inner.get(place).unwrap() as usize;
-            if !self.pushed(place).is_formed(types, levels - 1, component) {
+        // As many arguments come before a component as its place says.
+        for (place, component) in inner.into_iter().enumerate() {
+            if !self
+                .pushed(place)
+                .is_formed(types, levels - 1, usize::from(component))
+            {
                 return false;
             }
         }

@@ -43,7 +43,7 @@ fn bound_at(nodes: &[Node], n: usize) -> Tuple<u8>
 fn stands_at(names: &Tuple<u8>, place: usize, x: usize) -> bool
     ensures { Decides result (nth (parts names.now) place ≡ Some x) }
 {
-    names.get(place).is_some_and(|name| name as usize == x)
+    names.get(place).is_some_and(|name| usize::from(name) == x)
 }
 
 /// The first place at which `x` stands among the names, or none.

@@ -15,4 +15,4 @@ decreases-is_formed l = l.levels
 abbrev pub invariant-loop-place : goal.invariant-loop-place
 invariant-loop-place l =
     AllByRecursion (λ e. WellFormedEntry (marked l.self.scope.now) (push (length (components (type_at l.types l.at))) (outer l.self.counts)) (meant.entry e)) (entries (type_at l.types l.at))
-    × PartsFit (marked l.self.scope.now) (outer l.self.counts) (meant.type_within l.types (l.levels - 1)) l.place (components (type_at l.types l.at))
+    × PartsFit (marked l.self.scope.now) (outer l.self.counts) (meant.type_within l.types (l.levels - 1)) (length l.yielded) (components (type_at l.types l.at))
