@@ -14,7 +14,7 @@ use Rattle.calculus.proofs.Orders.{labels_ordered}
 use Rattle.fault.specs.Items.{list, nth}
 use Rattle.fault.specs.declared.items.Items.{Items}
 use Rattle.fault.specs.declared.label.Label.{Label}
-use Rattle.sheet.proofs.Nesting.{parts_few}
+use Rattle.tables.proofs.Iterated.{few}
 use Rattle.meaning.specs.Faults.{names_label}
 use Rattle.meaning.proofs.Scopes.{items_of}
 use Rattle.effects.specs.Found.{before, label_before}
@@ -22,7 +22,7 @@ use Rattle.effects.proofs.Naming.{labels_alike}
 
 -- a label has at most four items
 pub items_few : (xs : Items ℕ) → length (list xs) ≤ 4
-items_few xs = parts_few (record { 0 = Some xs })
+items_few xs = few (Some xs)
 
 -- numbers that items are ordered by: each item, below 256, or 256 where there is none
 abbrev Keyed : ℕ → List ℕ → List ℕ → Type 0

@@ -15,7 +15,7 @@ use Rattle.tables.specs.declared.tables.SheetType.{SheetType}
 use Rattle.tables.specs.declared.tables.SheetType.TheVariants.{Pure, Public, Channel}
 use Rattle.tables.specs.declared.tables.Tables.{Tables}
 use Rattle.sheet.specs.Types.{type_at}
-use Rattle.sheet.proofs.Nesting.{parts_few}
+use Rattle.tables.proofs.Iterated.{few}
 use Rattle.meaning.specs.Scopes.{scope_for}
 use Rattle.meaning.specs.Types.{entry, form, type_within, types_of}
 use Rattle.names.specs.Marks.{marked, Marks, outer, Counts}
@@ -35,7 +35,7 @@ pub form_fits : (Γ : Scope) (before : ℕ → ℕ) (f : ℕ → calculus.NameTy
 form_fits Γ before f Pure es cs = tt
 form_fits Γ before f Public es cs = tt
 form_fits Γ before f (Channel c) es cs =
-    (parts_few c.components, All-map (WellFormedEntry Γ (push (length (components (Channel c))) before)) entry (entries (Channel c)) es, cs)
+    (few c.components.0, All-map (WellFormedEntry Γ (push (length (components (Channel c))) before)) entry (entries (Channel c)) es, cs)
 
 pub form_entries : (Γ : Scope) (before : ℕ → ℕ) (f : ℕ → calculus.NameType) (x : SheetType) → WellFormedInside Γ before (form f x)
     → AllByRecursion (λ e. WellFormedEntry Γ (push (length (components x)) before) (entry e)) (entries x)

@@ -16,6 +16,7 @@ use Rattle.fault.specs.declared.items.Items.{Items}
 use Rattle.fault.specs.declared.items.Items.TheVariants.{One, Two, Three, Four}
 use Rattle.tables.specs.declared.tuple.Left.{Left}
 
+-- a tuple has at most four things
 pub few : {T : Type 0} (o : Option (Items T)) → length (things o) ≤ 4
 few None = omega arith
 few (Some (One a)) = omega arith
