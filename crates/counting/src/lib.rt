@@ -40,7 +40,8 @@ pub trait Counting: Copy {
     fn join(&self, a: u32, b: u32) -> Option<u32>
         ensures { SomeIff result ((operations self.now).join a b ≤ (operations self.now).ceiling) ((operations self.now).join a b) };
 
-    /// Two amounts joined; 0 where that passes the ceiling. For those who know that it does not, and want the number.
+    /// Two amounts joined; 0 where that passes the ceiling. An `Option` would be no plainer: the callers' contracts speak of
+    /// amounts within the ceiling alone, and each would put 0 in its place.
     final fn join_or_zero(&self, a: u32, b: u32) -> u32
         ensures within { (operations self.now).join a b ≤ (operations self.now).ceiling → result ≡ (operations self.now).join a b }
         ensures past { ((operations self.now).join a b ≤ (operations self.now).ceiling → ⊥) → result ≡ 0 }

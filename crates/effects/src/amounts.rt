@@ -19,8 +19,8 @@ pub(crate) fn amount_in(amounts: &[u32; 1024], node: usize) -> u32
 }
 
 impl<'a, C: Counting> Work<'a, C> {
-    // That there is a node `n` is asked by each: `n` is a number from a loop over the nodes, and a type that held this would
-    // have to lend the nodes too.
+    // That there is a node `n` is asked by three here: `n` is a number from a loop over the nodes, and a type that held this
+    // would have to lend the nodes too.
 
     /// The rows of a node.
     pub(crate) fn node_rows(&self, n: usize) -> &[Row]

@@ -10,7 +10,8 @@ use fault::Label;
 use std::array;
 use tables::tuple::Tuple;
 
-/// The number that a label is ordered by at a place: its item, or 256, above every item, where it has none.
+/// The number that a label is ordered by at a place: its item, or 256, above every item, where it has none. As an `Option`
+/// the missing one would come first.
 fn order_at(label: &Label<u8>, place: usize) -> u16
     ensures value { result ≡ unwrap_or (nth (list label.now.items) place) 256 }
     ensures small { IfSome (nth (list label.now.items) place) (λ x. x < 256) }
@@ -28,7 +29,7 @@ fn order_key(label: &Label<u8>) -> [u16; 4]
 }
 
 /// Whether one label comes before another: the first items that differ decide, and a missing item comes after every
-/// item. A derived order would put it before them, and two counts apart from one another.
+/// item. A derived order would go by the count of items first, and one of options would put the missing item first.
 pub(crate) fn is_before(left: &Label<u8>, right: &Label<u8>) -> bool
     ensures { result ≡ label_before left.now right.now }
 {

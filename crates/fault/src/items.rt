@@ -4,7 +4,7 @@ ghost use Rattle.std.specs.List.{All, AllZip};
 ghost use Rattle.fault.specs.Items.{list, things, nth, AllAnswer, AnyAnswer, SomeNone};
 
 /// One to four things, in order. An enum of its four forms, since nothing here may allocate and a label has one item at
-/// least; only the methods here take the forms apart, and all else goes by their closures.
+/// least; the methods here take the forms apart, and so do only those who read or print the four in ways of their own.
 #[derive(Clone, Copy, PartialEq, Eq, Debug)]
 pub enum Items<T> {
     One(T),

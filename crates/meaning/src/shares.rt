@@ -5,7 +5,8 @@ use counting::Counting;
 use fault::{Exact, Label};
 use tables::Share;
 
-/// What the shares give a label: the amounts of those that have this label, joined, unless that passes the ceiling.
+/// What the shares give a label: the amounts of those that have this label, joined, where that does not pass the
+/// ceiling.
 pub fn joined_for<C: Counting, T: Exact>(counting: &C, shares: &[Share<T>], label: &Label<T>) -> u32
     ensures { JoinedFor (C.Counting.operations counting.now) shares.now label.now result }
 {

@@ -7,7 +7,7 @@ ghost use Rattle.names.specs.Charts.{Charts};
 use sheet::Chart;
 use tables::tables::Tables;
 
-/// Sound tables with the chart of their nodes.
+/// Tables with the chart of their nodes.
 #[derive(Drop)]
 pub(crate) struct Charted<'a> {
     pub(crate) tables: &'a Tables,

@@ -13,7 +13,7 @@ use sheet::types::{LEVELS, components_of, entries_of};
 use tables::tables::{Entry, Item, SheetType};
 
 /// Where a type stands: the names in its scope, and how many arguments of the channels around it come before, from the
-/// nearest channel out.
+/// nearest channel out. Arrays by number, since nothing here may allocate.
 #[derive(Drop)]
 struct Inside<'a> {
     scope: &'a [bool; 64],
@@ -63,6 +63,8 @@ impl<'a> Inside<'a> {
     {
         entries.iter().all(|entry| self.entry_fits(entry))
     }
+
+    // The types and a number among them stay two, as the number changes at each level.
 
     /// Whether type `at`, so many levels in, is well formed.
     fn is_formed(&self, types: &[SheetType], levels: usize, at: usize) -> bool

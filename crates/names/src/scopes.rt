@@ -14,7 +14,7 @@ use std::array;
 use tables::tables::Node;
 use tables::tuple::Tuple;
 
-/// Marks the name, if it has a place.
+/// Marks the name, if it has a place. One shape with `note` of sheet's charts, which writes and says something else.
 fn mark_name(name: usize, marks: &mut [bool])
     ensures { (y : ℕ) → y < length marks.old → slice_index_or marks.new y false ≡ (member y (name ∷ []) || slice_index_or marks.old y false) }
 {
@@ -61,7 +61,7 @@ fn count_before(names: &Tuple<u8>, x: usize) -> usize
 }
 
 impl<'a> Charted<'a> {
-    /// The free names.
+    /// The free names. A mark for each number, here and below, since nothing here may allocate.
     fn free_names(&self) -> [bool; 64]
         ensures { Marks result (free self.now.tables.now) }
     {

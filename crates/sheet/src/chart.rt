@@ -61,8 +61,8 @@ pub fn names_bound(node: &Node) -> Tuple<u8>
 }
 
 /// Notes node `n` for number `x`, if it has a place, unless a node is noted there already.
-// One shape with `count_child` and with `mark_name` of names, each a few words: what is written differs (the lowest node, one
-// more, a mark), and so does what is said of it.
+// One shape with `count_child`, and with `mark_name` of names: what is written differs (the lowest node, one more, a mark),
+// and so does what is said of it.
 fn note(x: usize, n: usize, table: &mut [Option<usize>])
     ensures { (y : ℕ) → y < length table.old → slice_index_or table.new y None ≡ option_or (slice_index_or table.old y None) (then_some (member y (x ∷ [])) n) }
 {

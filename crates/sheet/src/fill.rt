@@ -160,7 +160,7 @@ pub fn fill(bytes: &[u8], basis: Basis, totals: Census) -> Result<Tables, Fault>
     let limits = Limits { basis, totals };
     let mut tables = Tables::new();
     // The place is counted along with the bytes that are left: an iterator of what `read` gives would be a type with laws of
-    // its own, for two loops (this one and that of `scan`) that both end at the first refusal.
+    // its own, for two loops (this one and that of `scan`) that both end where the bytes are no record.
     let mut place = 1;
     let mut left = rest;
     while !left.is_empty() {

@@ -91,7 +91,7 @@ impl Scan {
         ensures place { result.place ≡ self.now.place + 1 }
         ensures seen { (rs : List Record) → Seen rs self.now → Seen (rs ++ given ∷ []) result }
     {
-        // Counted here and not by an iterator, as in `fill`: reading ends at the first refusal.
+        // Counted here and not by an iterator, as in `fill`: reading ends where the bytes are no record.
         let place = self.place + 1;
         let kind = class(given);
         if self.wrong.is_some() {

@@ -25,7 +25,7 @@ pub fn children_of(node: &Node) -> Tuple<u16>
     }
 }
 
-/// One more for a child, if it has a place.
+/// One more for a child, if it has a place. One shape with `note` of the chart, which writes and says something else.
 fn count_child(child: usize, counts: &mut [usize])
     requires { (k : ℕ) → k < length counts.old → slice_index counts.old k ≤ 8192 }
     ensures { (k : ℕ) → k < length counts.old → slice_index counts.new k ≡ slice_index counts.old k + times k (child ∷ []) }
@@ -45,8 +45,8 @@ fn count_each(children: Tuple<u16>, counts: &mut [usize])
     }
 }
 
-// That there are at most 1,024 nodes is what `Table<Node, 1024>` holds; these functions ask it of a slice, which their loops
-// go over and from which they take.
+// That there are at most 1,024 nodes is what `Table<Node, 1024>` holds; these functions ask it of a slice, over which their
+// loops go.
 
 /// How often each number that has a place is named as a child.
 fn count_children(nodes: &[Node], counts: &mut [usize])

@@ -59,7 +59,7 @@ pub fn components_of(types: &[SheetType], at: usize) -> Tuple<u8>
         .map_or(Tuple(None), |found| found.components())
 }
 
-/// The entries of type `at`; none where there is no such type.
+/// The entries of type `at`; none where there is no such type. Not one with `components_of`: they read different things.
 pub fn entries_of(types: &[SheetType], at: usize) -> &[Entry]
     ensures { result.now ≡ entries (type_at types.now at) }
 {

@@ -71,6 +71,7 @@ impl<T: Copy, const N: usize> Table<T, N> {
             return Err(Full);
         }
         self.items[self.count] = item;
+        // The list's own count: no list of the library stands in a fixed place.
         self.count += 1;
         Ok(())
     }

@@ -79,7 +79,7 @@ impl<'a, C: Counting> Comparison<'a, C> {
                 a.components.count() == b.components.count()
                     && self.has_same_effect(level, left, right)
             }
-            // Two types of one kind: a pair of patterns, and the derived `==` would compare more than the kind.
+            // A pair of patterns: the types have no `==`, as their tables of entries have none.
             _ => false,
         }
     }

@@ -13,9 +13,10 @@ use tables::table::Table;
 use tables::tables::{Entry, Item, no_entries};
 use tables::tuple::Tuple;
 
-// That an item is placed (an index is not 0) is asked in each function here and not held by `Item`: that type is public,
-// and a narrower one would ask more of those who make it. `arguments` and `level` stay two: the level grows with each step
-// into a type, while the arguments stay those of one message.
+// That an item is placed (an index counts from 1) is asked in each function here and not held by `Item`: that type is
+// public, and a narrower one would ask more of those who make it.
+
+// `arguments` and `level` stay two: the level grows with each step into a type, the arguments stay those of one message.
 
 /// The item with the arguments put in: an index of this level becomes the argument at its position, if there is one;
 /// any other item stays.

@@ -6,7 +6,7 @@ ghost use Rattle.sheet.specs.Types.{type_at};
 use tables::tables::SheetType;
 use tables::tuple::Tuple;
 
-/// The type of this number; pure where there is none.
+/// The type of this number; pure where there is none. Types and a number stay two, as the number changes at each level.
 pub(crate) fn type_at(types: &[SheetType], at: usize) -> SheetType
     ensures { result ≡ type_at types.now at }
 {
