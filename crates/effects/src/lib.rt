@@ -41,7 +41,7 @@ pub fn judge_effects<C: Counting>(sheet: &OpenedSheet<C>, rows: &mut [Row]) -> R
         return Err(Fault::FewRows);
     }
     // The frame of `amount_of` again: a closure for what differs would need a contract longer than the frame.
-    let tables = sheet.tables();
+    let tables = sheet.as_tables();
     prepare(sheet, rows);
     let first = Work::new(&sheet.counting(), tables, rows).first_fault();
     clear_rows(rows);
@@ -65,7 +65,7 @@ pub fn amount_of<C: Counting>(
         clear_rows(rows);
         return Err(Fault::FewRows);
     }
-    let tables = sheet.tables();
+    let tables = sheet.as_tables();
     prepare(sheet, rows);
     let amount = Work::new(&sheet.counting(), tables, rows).amount_at(node, &label);
     clear_rows(rows);
@@ -77,5 +77,5 @@ fn prepare<C: Counting>(sheet: &OpenedSheet<C>, rows: &mut [Row])
     requires { 8192 ≤ length rows.old }
     ensures { (l : L ℕ) → Amounts (C.Counting.operations sheet.now.counting) (elements sheet.now.tables.nodes) (take (8 * length (elements sheet.now.tables.nodes)) rows.new) l (λ n. amount_at (C.Counting.operations sheet.now.counting) sheet.now.tables n (names_label l)) }
 {
-    fill_rows(sheet.counting().full_right(), sheet.tables(), rows);
+    fill_rows(sheet.counting().full_right(), sheet.as_tables(), rows);
 }

@@ -7,7 +7,8 @@ use counting::Counting;
 use sheet::OpenedSheet;
 use tables::tables::Tables;
 
-/// A sheet that passed, with its counting. It moves, and is filled only by judging.
+/// A sheet that passed, with its counting. It moves, and holds nothing but what the rules accept: it is filled by judging,
+/// or sealed of an opened sheet for which that is shown.
 #[derive(Drop)]
 pub struct PassedSheet<C: Counting> {
     sheet: OpenedSheet<C>,
@@ -24,6 +25,14 @@ impl<C: Counting> PassedSheet<C> {
         passed_of(&opened)
     }
 
+    /// The passed sheet of an opened one that the rules accept.
+    pub fn seal(sheet: OpenedSheet<C>) -> PassedSheet<C>
+        requires { Accepts (C.Counting.operations sheet.counting) sheet.tables }
+        ensures { result.sheet ≡ sheet }
+    {
+        PassedSheet { sheet }
+    }
+
     /// The counting that the sheet was judged with.
     pub fn counting(&self) -> C
         ensures { result ≡ self.now.sheet.counting }
@@ -31,17 +40,33 @@ impl<C: Counting> PassedSheet<C> {
         self.sheet.counting()
     }
 
-    /// The tables of the sheet, which the rules accept.
-    pub fn tables(&self) -> &Tables
-        ensures value { result.now ≡ self.now.sheet.tables }
-        ensures sound { Sound (C.Counting.operations self.now.sheet.counting).largest result.now }
-        ensures accepted { ∥ Accepts (C.Counting.operations self.now.sheet.counting) result.now ∥₁ }
+    /// A copy of the tables of the sheet, which the rules accept.
+    pub fn tables(&self) -> Tables
+        ensures value { result ≡ self.now.sheet.tables }
+        ensures sound { Sound (C.Counting.operations self.now.sheet.counting).largest result }
+        ensures accepted { ∥ Accepts (C.Counting.operations self.now.sheet.counting) result ∥₁ }
     {
         self.sheet.tables()
     }
 
-    /// The opened sheet that passed.
-    pub fn opened(&self) -> &OpenedSheet<C>
+    /// The tables of the sheet, lent: nothing is copied.
+    pub fn as_tables(&self) -> &Tables
+        ensures value { result.now ≡ self.now.sheet.tables }
+        ensures sound { Sound (C.Counting.operations self.now.sheet.counting).largest result.now }
+        ensures accepted { ∥ Accepts (C.Counting.operations self.now.sheet.counting) result.now ∥₁ }
+    {
+        self.sheet.as_tables()
+    }
+
+    /// The opened sheet that passed: a copy of its tables, with its counting.
+    pub fn opened(&self) -> OpenedSheet<C>
+        ensures { result ≡ self.now.sheet }
+    {
+        OpenedSheet::seal(self.counting(), self.tables())
+    }
+
+    /// The opened sheet that passed, lent: nothing is copied.
+    pub fn as_opened(&self) -> &OpenedSheet<C>
         ensures { result.now ≡ self.now.sheet }
     {
         &self.sheet
@@ -54,6 +79,6 @@ pub(crate) fn passed_of<C: Counting>(sheet: &OpenedSheet<C>) -> PassedSheet<C>
     ensures counting { result.sheet.counting ≡ sheet.now.counting }
     ensures tables { result.sheet.tables ≡ sheet.now.tables }
 {
-    let copy = OpenedSheet::seal(sheet.counting(), *sheet.tables());
-    PassedSheet { sheet: copy }
+    let copy = OpenedSheet::seal(sheet.counting(), sheet.tables());
+    PassedSheet::seal(copy)
 }

@@ -47,11 +47,14 @@ fn first_fault<C: Counting>(sheet: &OpenedSheet<C>, rows: &mut [Row]) -> Result<
     ensures accepted { is_ok result ≡ true → Accepts (C.Counting.operations sheet.now.counting) sheet.now.tables }
     ensures zero { rows.new ≡ replicate (length rows.old) blank }
 {
-    clear_rows(rows);
     if rows.len() < ENOUGH {
+        clear_rows(rows);
         return Err(Fault::FewRows);
     }
-    judge_types(sheet)?;
+    if let Err(fault) = judge_types(sheet) {
+        clear_rows(rows);
+        return Err(fault);
+    }
     judge_effects(sheet, rows)
 }
 
@@ -90,5 +93,5 @@ pub fn tell<C: Counting>(
     ensures past { IfOk result (λ a. length (elements sheet.now.sheet.tables.nodes) ≤ node → a ≡ 0) }
     ensures zero { rows.new ≡ replicate (length rows.old) blank }
 {
-    amount_of(sheet.opened(), rows, node, label)
+    amount_of(sheet.as_opened(), rows, node, label)
 }

@@ -41,7 +41,7 @@ fn line_by<C: Counting>(counting: C, bytes: &[u8]) -> Line
 {
     let mut place = OpenedSheet::new(counting);
     match open(bytes, &mut place) {
-        Ok(()) => Line::Opened(place.tables().nodes.len()),
+        Ok(()) => Line::Opened(place.as_tables().nodes.len()),
         Err(fault) => Line::Refused(fault),
     }
 }

@@ -32,5 +32,5 @@ pub fn node_count<C: Counting>(sheet: &OpenedSheet<C>) -> usize
     ensures judging { DecidesChecks (C.Counting.operations sheet.now.counting) (types_of sheet.now.tables) (free sheet.now.tables) (process_at (elements sheet.now.tables.nodes) 0) }
     ensures amounts { BySteps (C.Counting.operations sheet.now.counting) sheet.now.tables }
 {
-    sheet.tables().nodes.len()
+    sheet.as_tables().nodes.len()
 }

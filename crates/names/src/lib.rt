@@ -23,12 +23,12 @@ use sheet::OpenedSheet;
 pub fn first_free_not_public<C: Counting>(sheet: &OpenedSheet<C>) -> Option<usize>
     ensures { FirstFailure (λ x. in_scope (free sheet.now.tables) x ≡ true → types_of sheet.now.tables x ≡ public) (length (elements sheet.now.tables.names)) result }
 {
-    Charted::new(sheet.tables()).find_free_not_public()
+    Charted::new(sheet.as_tables()).find_free_not_public()
 }
 
 /// The first name whose type is not well formed in its scope, or none.
 pub fn first_ill_formed<C: Counting>(sheet: &OpenedSheet<C>) -> Option<usize>
     ensures { FirstFailure (λ x. WellFormed (scope_for sheet.now.tables x) (types_of sheet.now.tables x)) (length (elements sheet.now.tables.names)) result }
 {
-    Charted::new(sheet.tables()).find_ill_formed()
+    Charted::new(sheet.as_tables()).find_ill_formed()
 }

@@ -42,8 +42,23 @@ impl<C: Counting> OpenedSheet<C> {
         self.counting
     }
 
-    /// The tables of the sheet.
-    pub fn tables(&self) -> &Tables
+    /// The counting that the sheet was opened with, lent: nothing is copied.
+    pub fn as_counting(&self) -> &C
+        ensures { result.now ≡ self.now.counting }
+    {
+        &self.counting
+    }
+
+    /// A copy of the tables of the sheet, which does not keep the sheet from being filled again.
+    pub fn tables(&self) -> Tables
+        ensures value { result ≡ self.now.tables }
+        ensures sound { Sound (C.Counting.operations self.now.counting).largest result }
+    {
+        self.tables
+    }
+
+    /// The tables of the sheet, lent: nothing is copied.
+    pub fn as_tables(&self) -> &Tables
         ensures value { result.now ≡ self.now.tables }
         ensures sound { Sound (C.Counting.operations self.now.counting).largest result.now }
     {

@@ -19,7 +19,7 @@ use tables::tuple::Tuple;
 pub(crate) fn first_mistyped<C: Counting>(sheet: &OpenedSheet<C>) -> Option<usize>
     ensures { FirstFailure (λ n. TypesFit (C.Counting.operations sheet.now.counting) (types_of sheet.now.tables) (node_at (elements sheet.now.tables.nodes) n)) (length (elements sheet.now.tables.nodes)) result }
 {
-    let nodes = sheet.tables().nodes.as_slice();
+    let nodes = sheet.as_tables().nodes.as_slice();
     nodes.iter().position(|node| !types_fit(sheet, node))
 }
 
@@ -51,7 +51,7 @@ fn argument_fits<C: Counting>(
 ) -> bool
     ensures { Decides result (SameType (C.Counting.operations sheet.now.counting) (types_of sheet.now.tables (slice_index (parts names) place)) (required (types_of sheet.now.tables channel) (parts names) place)) }
 {
-    let tables = sheet.tables();
+    let tables = sheet.as_tables();
     let types = tables.types.as_slice();
     let own = tables.type_number(number_at(&names, place));
     match type_at(types, tables.type_number(usize::from(channel))) {
@@ -60,7 +60,7 @@ fn argument_fits<C: Counting>(
         SheetType::Channel(found) => {
             let earlier = names.first(place);
             let component = number_at(&found.components, place);
-            Comparison::new(&sheet.counting(), types, &earlier).is_same(1, own, component)
+            Comparison::new(sheet.as_counting(), types, &earlier).is_same(1, own, component)
         }
     }
 }

@@ -24,7 +24,7 @@ use sheet::OpenedSheet;
 pub fn first_bad_channel<C: Counting>(sheet: &OpenedSheet<C>) -> Option<usize>
     ensures { FirstFailure (λ n. CountFits (types_of sheet.now.tables) (node_at (elements sheet.now.tables.nodes) n)) (length (elements sheet.now.tables.nodes)) result }
 {
-    first_miscounted(sheet.tables())
+    first_miscounted(sheet.as_tables())
 }
 
 /// The first node that sends or receives a name that has not the required type, or none.

@@ -9,7 +9,7 @@ returns g c =
       told = (
         c.if-rows-lt-ENOUGH.false,
         c.amount_at-amount.ensures _ (amounts_same _ _ _ _ _ _ _ _ _ (ap g.C.Counting.operations (c.new.ensures.counting ∙ c.counting.ensures))
-            c.tables-tables.ensures.value c.new.ensures.nodes c.new.ensures.rows (c.prepare.ensures c.args.label)),
+            c.as_tables-tables.ensures.value c.new.ensures.nodes c.new.ensures.rows (c.prepare.ensures c.args.label)),
       );
       zero = c.clear_rows-2.ensures ∙ ap (λ k. replicate k blank) c.prepare.auto.rows;
     }

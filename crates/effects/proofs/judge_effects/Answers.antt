@@ -28,7 +28,7 @@ returns-in-None g c =
     let K = g.C.Counting.operations v in
     let t = s.tables in
     let k = ap g.C.Counting.operations (c.new.ensures.counting ∙ c.counting.ensures) in
-    let e = c.tables-tables.ensures.value in
+    let e = c.as_tables-tables.ensures.value in
     let nodes = c.new.ensures.nodes ∙ ap (λ (x : Tables). elements x.nodes) e in
     let A : Label ℕ → ℕ → ℕ = λ l n. amount_at K t n (names_label l) in
     record {
@@ -46,7 +46,7 @@ returns-in-Some g c =
     let t = s.tables in
     let f = c.in-Some.found in
     let k = ap g.C.Counting.operations (c.new.ensures.counting ∙ c.counting.ensures) in
-    let e = c.tables-tables.ensures.value in
+    let e = c.as_tables-tables.ensures.value in
     let nodes = c.new.ensures.nodes ∙ ap (λ (x : Tables). elements x.nodes) e in
     let A : Label ℕ → ℕ → ℕ = λ l n. amount_at K t n (names_label l) in
     let told = c.told.ensures ∙ ap (λ (x : List Node). fault_at x f.place f.label f.amount) (c.as_slice.ensures.value ∙ ap (λ (x : Tables). elements x.nodes) e) in

@@ -11,4 +11,4 @@ returns g c =
     let room : 8 * length (elements s.tables.nodes) ≤ length c.fill_rows.new.rows = omega (arith, few, c.requires, c.fill_rows.auto.rows) in
     opened_amounts (g.C.Counting.operations v) (g.met.C.Counting.lawful v) s.tables s.sound
     c.full_right.result (c.full_right.ensures ∙ ap (λ x. (g.C.Counting.operations x).full) c.counting.ensures)
-    c.tables.result.now c.tables.ensures.value c.fill_rows.new.rows room c.fill_rows.ensures
+    c.as_tables.result.now c.as_tables.ensures.value c.fill_rows.new.rows room c.fill_rows.ensures

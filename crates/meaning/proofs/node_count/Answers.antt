@@ -15,7 +15,7 @@ returns g c =
     let s = c.args.sheet.now in
     let sound = s.sound in
     let K = g.C.Counting.operations s.counting in
-    let count = c.len.ensures.value ∙ ap (λ (t : Tables). length (elements t.nodes)) c.tables.ensures.value in
+    let count = c.len.ensures.value ∙ ap (λ (t : Tables). length (elements t.nodes)) c.as_tables.ensures.value in
     record {
       value = count;
       unfolds = process_unfolds _ (tree_of _ _ sound);

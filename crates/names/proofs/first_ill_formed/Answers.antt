@@ -10,4 +10,4 @@ use Rattle.names.proofs.first_ill_formed.Goals as goal
 pub returns : goal.returns
 returns g c =
     let Found = λ (t : Tables). FirstFailure (λ x. WellFormed (scope_for t x) (types_of t x)) (length (elements t.names)) c.find_ill_formed.result in
-    subst Found (c.new.ensures ∙ c.tables.ensures.value) c.find_ill_formed.ensures
+    subst Found (c.new.ensures ∙ c.as_tables.ensures.value) c.find_ill_formed.ensures

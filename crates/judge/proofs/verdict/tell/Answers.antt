@@ -11,7 +11,7 @@ returns g c =
     let rows = length c.args.rows.now in
     let L = names_label c.args.label in
     let r = c.amount_of.result in
-    let told = rw c.opened.ensures at c.amount_of.ensures.told in
+    let told = rw c.as_opened.ensures at c.amount_of.ensures.told in
     let sound = s.sound in
     record {
       told = told;

@@ -10,7 +10,7 @@ returns-in-Ok g c =
     let C = g.C.Counting in
     let held = c.open.new.place.tables in
     let means = subst (λ k. Means (basis_of (C.tag k) (C.operations k)) c.args.bytes.now (Ok held)) c.new-place.ensures.counting c.in-Ok.ensures.meaning in
-    let count = c.len.ensures.value ∙ ap (λ (t : Tables). length (elements t.nodes)) c.tables.ensures.value in
+    let count = c.len.ensures.value ∙ ap (λ (t : Tables). length (elements t.nodes)) c.as_tables.ensures.value in
     (Ok held, means, ap opened count)
 
 pub returns-in-Err : goal.returns-in-Err

@@ -17,6 +17,6 @@ returns g c =
     let s = c.args.sheet.now in
     let K = g.C.Counting.operations s.counting in
     let Fits : Node → Type 0 = λ node. TypesFit K (types_of s.tables) node in
-    let nodes = c.as_slice-nodes.ensures.value ∙ ap (λ (t : Tables). elements t.nodes) c.tables.ensures.value in
+    let nodes = c.as_slice-nodes.ensures.value ∙ ap (λ (t : Tables). elements t.nodes) c.as_tables.ensures.value in
     let found = IsFirst-from_position _ _ _ (λ node. Fits node → ⊥) Fits c.position.ensures.ran (YieldsList-from_slice c.as_slice-nodes.result.now cc) (λ x q k. search (rules, tests)) (λ x q k. search (rules, tests)) in
     subst (λ (xs : List Node). FirstFailure (λ n. Fits (node_at xs n)) (length xs) c.position.result) nodes (first_of_list Fits c.as_slice-nodes.result.now Stop c.position.result found)
