@@ -1,5 +1,5 @@
 -- The amounts of all nodes at one label, from the work rows.
-use Rattle.std.specs.Prelude.{◌≡◌, ℕ, ◌<◌, ◌≤◌, max, List, length}
+use Rattle.std.specs.Prelude.{◌≡◌, ℕ, ◌<◌, ◌≤◌, max, List, length, slice_index}
 use Rattle.std.specs.List.{AllByRecursion}
 use Rattle.calculus.specs.Countings.{Operations}
 use Rattle.calculus.specs.Effects.{◌≟◌}
@@ -34,6 +34,10 @@ step_by K own child (End l next) = K.join (child next) own
 -- the children of node n come after it, and there are such nodes
 abbrev pub LaterChildren : (n count : ℕ) → Node → Type 0
 LaterChildren n count x = AllByRecursion (λ c. (n < c) × (c < count)) (children x)
+
+-- past so many nodes the amounts are 0
+abbrev pub NonePast : ℕ → List ℕ → Type 0
+NonePast count amounts = (n : ℕ) → count ≤ n → slice_index amounts n ≡ 0
 
 -- A has the amounts of all nodes at a label: each comes from the children's and from the node's rows, and none passes the ceiling
 pub record Amounts (K : Operations) (all : List Node) (table : List Row) (L : Label ℕ) (A : ℕ → ℕ) : Type 0 where

@@ -2,10 +2,11 @@
 ghost use Rattle.std.specs.Prelude.{◌≡◌, ℕ, ◌*◌, ◌<◌, ◌≤◌, length, slice_index};
 ghost use Rattle.sheet.specs.Tree.{node_at};
 ghost use Rattle.effects.specs.Rows.{places};
-ghost use Rattle.effects.specs.Steps.{own_at, step_by, Amounts};
+ghost use Rattle.effects.specs.Steps.{own_at, step_by, Amounts, NonePast};
 
-use crate::rows::Row;
-use crate::work::{ROWS, Work};
+use crate::row::Row;
+use crate::rows::node_rows;
+use crate::work::Work;
 use counting::Counting;
 use fault::Label;
 use meaning::joined_for;
@@ -27,7 +28,7 @@ impl<'a, C: Counting> Work<'a, C> {
         requires { n < length self.now.nodes.now }
         ensures { result.now ≡ places self.now.rows.now n }
     {
-        &self.rows[ROWS * n..ROWS * n + ROWS]
+        node_rows(self.rows, n)
     }
 
     /// What the rows of a node give a label, joined.
@@ -69,24 +70,27 @@ impl<'a, C: Counting> Work<'a, C> {
         }
     }
 
-    /// The amounts of all nodes at a label, and 0 past the last: from the last node down, since each amount comes from
-    /// those of the nodes after it.
-    pub(crate) fn amounts_at(&self, label: &Label<u8>) -> [u32; 1024]
-        ensures { (A : ℕ → ℕ) → Amounts (C.Counting.operations self.now.counting.now) self.now.nodes.now self.now.rows.now label.now A → (n : ℕ) → slice_index result n ≡ A n }
+    /// Writes the amounts of all nodes at a label: from the last node down, since each amount comes from those of the nodes
+    /// after it. Past the last node they have to be 0, and still are: so one array serves every label in turn.
+    pub(crate) fn write_amounts(&self, label: &Label<u8>, amounts: &mut [u32; 1024])
+        requires { NonePast (length self.now.nodes.now) amounts.old }
+        ensures amounts { (A : ℕ → ℕ) → Amounts (C.Counting.operations self.now.counting.now) self.now.nodes.now self.now.rows.now label.now A → (n : ℕ) → slice_index amounts.new n ≡ A n }
+        ensures past { NonePast (length self.now.nodes.now) amounts.new }
     {
-        // An array by number, since nothing here may allocate.
-        let mut amounts = [0; 1024];
         // By numbers: what is written at a node's number is made of what stands at its children's.
         for n in (0..self.nodes.len()).rev() {
-            amounts[n] = self.node_amount(n, label, &amounts);
+            let amount = self.node_amount(n, label, amounts);
+            amounts[n] = amount;
         }
-        amounts
     }
 
     /// The amount of a node at a label; past the last node it is 0.
     pub(crate) fn amount_at(&self, node: usize, label: &Label<u8>) -> u32
         ensures { (A : ℕ → ℕ) → Amounts (C.Counting.operations self.now.counting.now) self.now.nodes.now self.now.rows.now label.now A → result ≡ A node }
     {
-        amount_in(&self.amounts_at(label), node)
+        // An array by number, since nothing here may allocate.
+        let mut amounts = [0; 1024];
+        self.write_amounts(label, &mut amounts);
+        amount_in(&amounts, node)
     }
 }

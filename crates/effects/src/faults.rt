@@ -6,12 +6,12 @@ ghost use Rattle.sheet.specs.Scope.{binds};
 ghost use Rattle.sheet.specs.Tree.{node_at};
 ghost use Rattle.effects.specs.Faults.{fault_at};
 ghost use Rattle.effects.specs.Found.{meets, uncopyable, bad, asks, LastBad, Highest, FirstIn, FirstOf, with_row, brought};
-ghost use Rattle.effects.specs.Steps.{Amounts};
+ghost use Rattle.effects.specs.Steps.{Amounts, NonePast};
 
 use crate::amounts::amount_in;
 use crate::found::{Found, better};
 use crate::labels::mentions_any;
-use crate::rows::Row;
+use crate::row::Row;
 use crate::work::Work;
 use counting::Counting;
 use fault::{Fault, Label};
@@ -75,36 +75,54 @@ impl<'a, C: Counting> Work<'a, C> {
     }
 
     // `A` names the amounts of all labels, which only the proof can hold: that they are the amounts is said anew in each of
-    // these, as a field could hold it of no more than one label.
+    // these, as a field could hold it of no more than one label. The array of amounts is handed down, and written anew for
+    // each label: to make one for each would take longer than the amounts of a small sheet.
 
     /// The first fault of the labels so far and this one.
-    fn try_label(&self, label: &Label<u8>, best: Option<Found>) -> Option<Found>
-        ensures { (A : L ℕ → ℕ → ℕ) → Amounts (C.Counting.operations self.now.counting.now) self.now.nodes.now self.now.rows.now label.now (A label.now) → (S : List (L ℕ)) → FirstIn (C.Counting.operations self.now.counting.now) self.now.nodes.now A S best → FirstIn (C.Counting.operations self.now.counting.now) self.now.nodes.now A (label.now ∷ S) result }
+    fn try_label(
+        &self,
+        label: &Label<u8>,
+        best: Option<Found>,
+        amounts: &mut [u32; 1024],
+    ) -> Option<Found>
+        requires { NonePast (length self.now.nodes.now) amounts.old }
+        ensures past { NonePast (length self.now.nodes.now) amounts.new }
+        ensures first { (A : L ℕ → ℕ → ℕ) → Amounts (C.Counting.operations self.now.counting.now) self.now.nodes.now self.now.rows.now label.now (A label.now) → (S : List (L ℕ)) → FirstIn (C.Counting.operations self.now.counting.now) self.now.nodes.now A S best → FirstIn (C.Counting.operations self.now.counting.now) self.now.nodes.now A (label.now ∷ S) result }
     {
         // Two cases, since each has a proof of its own: by `map_or` the goal that the result is the first stays open.
-        match self.first_at(label, &self.amounts_at(label)) {
+        self.write_amounts(label, amounts);
+        match self.first_at(label, amounts) {
             Some(found) => better(best, found),
             None => best,
         }
     }
 
     /// The first fault of the labels so far and that of a row; a row with no amount brings none in.
-    fn try_row(&self, row: &Row, best: Option<Found>) -> Option<Found>
-        ensures { (A : L ℕ → ℕ → ℕ) → ((l : L ℕ) → Amounts (C.Counting.operations self.now.counting.now) self.now.nodes.now self.now.rows.now l (A l)) → (S : List (L ℕ)) → FirstIn (C.Counting.operations self.now.counting.now) self.now.nodes.now A S best → FirstIn (C.Counting.operations self.now.counting.now) self.now.nodes.now A (with_row row.now S) result }
+    fn try_row(&self, row: &Row, best: Option<Found>, amounts: &mut [u32; 1024]) -> Option<Found>
+        requires { NonePast (length self.now.nodes.now) amounts.old }
+        ensures past { NonePast (length self.now.nodes.now) amounts.new }
+        ensures first { (A : L ℕ → ℕ → ℕ) → ((l : L ℕ) → Amounts (C.Counting.operations self.now.counting.now) self.now.nodes.now self.now.rows.now l (A l)) → (S : List (L ℕ)) → FirstIn (C.Counting.operations self.now.counting.now) self.now.nodes.now A S best → FirstIn (C.Counting.operations self.now.counting.now) self.now.nodes.now A (with_row row.now S) result }
     {
         if row.amount == 0 {
             best
         } else {
-            self.try_label(&row.label, best)
+            self.try_label(&row.label, best, amounts)
         }
     }
 
     /// The first fault of the labels so far and those that the rows bring in.
-    fn try_rows(&self, rows: &[Row], mut best: Option<Found>) -> Option<Found>
-        ensures { (A : L ℕ → ℕ → ℕ) → ((l : L ℕ) → Amounts (C.Counting.operations self.now.counting.now) self.now.nodes.now self.now.rows.now l (A l)) → (S : List (L ℕ)) → FirstIn (C.Counting.operations self.now.counting.now) self.now.nodes.now A S best → FirstIn (C.Counting.operations self.now.counting.now) self.now.nodes.now A (brought rows.now S) result }
+    fn try_rows(
+        &self,
+        rows: &[Row],
+        mut best: Option<Found>,
+        amounts: &mut [u32; 1024],
+    ) -> Option<Found>
+        requires { NonePast (length self.now.nodes.now) amounts.old }
+        ensures past { NonePast (length self.now.nodes.now) amounts.new }
+        ensures first { (A : L ℕ → ℕ → ℕ) → ((l : L ℕ) → Amounts (C.Counting.operations self.now.counting.now) self.now.nodes.now self.now.rows.now l (A l)) → (S : List (L ℕ)) → FirstIn (C.Counting.operations self.now.counting.now) self.now.nodes.now A S best → FirstIn (C.Counting.operations self.now.counting.now) self.now.nodes.now A (brought rows.now S) result }
     {
         for row in rows {
-            best = self.try_row(row, best);
+            best = self.try_row(row, best, amounts);
         }
         best
     }
@@ -113,10 +131,12 @@ impl<'a, C: Counting> Work<'a, C> {
     pub(crate) fn first_fault(&self) -> Option<Found>
         ensures { (A : L ℕ → ℕ → ℕ) → ((l : L ℕ) → Amounts (C.Counting.operations self.now.counting.now) self.now.nodes.now self.now.rows.now l (A l)) → FirstOf (C.Counting.operations self.now.counting.now) self.now.nodes.now A result }
     {
+        // An array by number, since nothing here may allocate; one for all labels.
+        let mut amounts = [0; 1024];
         let mut best = None;
         for (n, node) in self.nodes.iter().enumerate() {
             if is_asking(node) {
-                best = self.try_rows(self.node_rows(n), best);
+                best = self.try_rows(self.node_rows(n), best, &mut amounts);
             }
         }
         best

@@ -23,10 +23,12 @@ mod amounts;
 mod faults;
 mod found;
 mod labels;
-mod rows;
+pub mod row;
+pub mod rows;
 mod work;
 
-pub use rows::{Row, clear_rows};
+pub use row::Row;
+pub use rows::clear_rows;
 
 /// How many rows are enough for every sheet: eight for each of 1,024 nodes.
 pub const ENOUGH: usize = 8192;
@@ -77,5 +79,12 @@ fn prepare<C: Counting>(sheet: &OpenedSheet<C>, rows: &mut [Row])
     requires { 8192 ≤ length rows.old }
     ensures { (l : L ℕ) → Amounts (C.Counting.operations sheet.now.counting) (elements sheet.now.tables.nodes) (take (8 * length (elements sheet.now.tables.nodes)) rows.new) l (λ n. amount_at (C.Counting.operations sheet.now.counting) sheet.now.tables n (names_label l)) }
 {
-    fill_rows(sheet.counting().full_right(), sheet.as_tables(), rows);
+    let tables = sheet.as_tables();
+    fill_rows(
+        sheet.counting().full_right(),
+        tables.types.as_slice(),
+        tables.names.as_slice(),
+        tables.nodes.as_slice(),
+        rows,
+    );
 }

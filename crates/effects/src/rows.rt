@@ -1,21 +1,17 @@
 //! The work rows: eight a node.
-ghost use Rattle.std.specs.Prelude.{◌≡◌, ℕ, ◌*◌, ◌<◌, ◌≤◌, map, length, replicate, slice_index_or};
+ghost use Rattle.std.specs.Prelude.{◌≡◌, ℕ, ◌+◌, ◌*◌, ◌<◌, ◌≤◌, map, length, replicate, slice_index_or};
 ghost use Rattle.calculus.specs.Effects.{named as name_of};
-ghost use Rattle.tables.specs.Elements.{elements};
 ghost use Rattle.tables.specs.Encoding.{parts};
 ghost use Rattle.meaning.specs.Types.{item as item_of};
-ghost use Rattle.effects.specs.Rows.{blank, map_items, entry_row, carried, rows_of, Filled};
+ghost use Rattle.effects.specs.Rows.{blank, map_items, entry_row, carried, rows_of, Filled, places};
 
+use crate::row::Row;
 use crate::work::ROWS;
 use fault::{Items, Label};
 use sheet::types::entries_of;
 use std::array;
-use tables::Share;
-use tables::tables::{Entry, Item, Node, Tables};
+use tables::tables::{Entry, Item, Node, SheetType};
 use tables::tuple::Tuple;
-
-/// A work row: so much for a label of names.
-pub type Row = Share<u8>;
 
 /// A row of nothing: what stands in a row that is not used. No `Option`: the rows are lent, so many bytes each.
 fn blank_row() -> Row
@@ -61,24 +57,23 @@ fn row_of_entry(names: &Tuple<u8>, entry: &Entry) -> Row
     }
 }
 
-/// The entries of what a message on a channel carries.
-fn carried(tables: &Tables, channel: u8) -> &[Entry]
-    ensures { result.now ≡ carried (elements tables.now.types) (elements tables.now.names) channel }
+/// The entries of what a message on a channel carries. The number of its type is looked up as `Tables::type_number` does,
+/// in the lists alone: who fills rows need not have tables.
+fn carried<'a>(types: &'a [SheetType], owners: &[u8], channel: u8) -> &'a [Entry]
+    ensures { result.now ≡ carried types.now owners.now channel }
 {
-    entries_of(
-        tables.types.as_slice(),
-        tables.type_number(usize::from(channel)),
-    )
+    let number = owners.get(usize::from(channel));
+    entries_of(types, number.map_or(types.len(), |at| usize::from(*at)))
 }
 
-/// The eight rows of a node: those of what its message carries, or one full right, and then rows of nothing.
-fn node_rows(full: u32, tables: &Tables, node: &Node) -> [Row; 8]
+/// What stands in the eight rows of a node: what its message carries, or one full right, and then rows of nothing.
+fn rows_for(full: u32, types: &[SheetType], owners: &[u8], node: &Node) -> [Row; 8]
     ensures size { length result ≡ 8 }
-    ensures rows { (j : ℕ) → j < 8 → slice_index_or result j blank ≡ slice_index_or (rows_of full (elements tables.now.types) (elements tables.now.names) node.now) j blank }
+    ensures rows { (j : ℕ) → j < 8 → slice_index_or result j blank ≡ slice_index_or (rows_of full types.now owners.now node.now) j blank }
 {
     match *node {
         Node::Send { channel, names } | Node::Receive { channel, names, .. } => {
-            entry_rows(carried(tables, channel), &names)
+            entry_rows(carried(types, owners, channel), &names)
         }
         Node::Begin { label, .. } | Node::End { label, .. } => {
             let mut rows = [blank_row(); 8];
@@ -109,12 +104,19 @@ fn entry_at(all: &[Entry], names: &Tuple<u8>, j: usize) -> Row
 }
 
 /// Writes the rows of all nodes.
-pub(crate) fn fill_rows(full: u32, tables: &Tables, rows: &mut [Row])
-    requires { 8 * length (elements tables.now.nodes) ≤ length rows.old }
-    ensures { Filled full (elements tables.now.types) (elements tables.now.names) (elements tables.now.nodes) rows.new (8 * length (elements tables.now.nodes)) }
+pub fn fill_rows(full: u32, types: &[SheetType], owners: &[u8], nodes: &[Node], rows: &mut [Row])
+    requires { 8 * length nodes.now ≤ length rows.old }
+    ensures { Filled full types.now owners.now nodes.now rows.new (8 * length nodes.now) }
 {
-    let nodes = tables.nodes.as_slice();
     for (n, node) in nodes.iter().enumerate() {
-        rows[ROWS * n..ROWS * n + ROWS].copy_from_slice(&node_rows(full, tables, node));
+        rows[ROWS * n..ROWS * n + ROWS].copy_from_slice(&rows_for(full, types, owners, node));
     }
+}
+
+/// The rows of a node.
+pub fn node_rows(rows: &[Row], node: usize) -> &[Row]
+    requires { 8 * node + 8 ≤ length rows.now }
+    ensures { result.now ≡ places rows.now node }
+{
+    &rows[ROWS * node..ROWS * node + ROWS]
 }

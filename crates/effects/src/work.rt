@@ -2,7 +2,7 @@
 ghost use Rattle.std.specs.Prelude.{◌≡◌, ◌*◌, ◌≤◌, length, take};
 ghost use Rattle.tables.specs.Elements.{elements};
 
-use crate::rows::Row;
+use crate::row::Row;
 use tables::tables::{Node, Tables};
 
 /// How many rows a node has.

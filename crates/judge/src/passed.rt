@@ -60,7 +60,8 @@ impl<C: Counting> PassedSheet<C> {
 
     /// The opened sheet that passed: a copy of its tables, with its counting.
     pub fn opened(&self) -> OpenedSheet<C>
-        ensures { result ≡ self.now.sheet }
+        ensures counting { result.counting ≡ self.now.sheet.counting }
+        ensures tables { result.tables ≡ self.now.sheet.tables }
     {
         OpenedSheet::seal(self.counting(), self.tables())
     }
