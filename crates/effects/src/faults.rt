@@ -89,8 +89,8 @@ impl<'a, C: Counting> Work<'a, C> {
         ensures past { NonePast (length self.now.nodes.now) amounts.new }
         ensures first { (A : L ℕ → ℕ → ℕ) → Amounts (C.Counting.operations self.now.counting.now) self.now.nodes.now self.now.rows.now label.now (A label.now) → (S : List (L ℕ)) → FirstIn (C.Counting.operations self.now.counting.now) self.now.nodes.now A S best → FirstIn (C.Counting.operations self.now.counting.now) self.now.nodes.now A (label.now ∷ S) result }
     {
-        // Two cases, since each has a proof of its own: by `map_or` the goal that the result is the first stays open.
         self.write_amounts(label, amounts);
+        // Two cases, since each has a proof of its own: by `map_or` the goal that the result is the first stays open.
         match self.first_at(label, amounts) {
             Some(found) => better(best, found),
             None => best,
