@@ -1,10 +1,11 @@
 -- What a token spells, from its parts, and what a case spells, token by token.
-use Rattle.std.proofs.Common.{◌≡◌, ◌≢◌, ℕ, ◌+◌, ◌-◌, ◌*◌, ◌^◌, min, ◌<◌, ◌≤◌, zero, suc, List, [], ◌∷◌, ◌++◌, length, Option, Some, None, IfSome, Bor, refl, sym, ap, subst, ◌∙◌, arith, append_assoc, append-nil, length-append, eqb, eqb-true}
+use Rattle.std.proofs.Common.{◌≡◌, ◌≢◌, ℕ, ◌+◌, ◌-◌, ◌*◌, ◌<◌, ◌≤◌, zero, suc, List, [], ◌∷◌, ◌++◌, length, Option, Some, None, IfSome, Bor, refl, sym, ap, subst, ◌∙◌, arith, append_assoc, append-nil, length-append, take, drop, eqb, eqb-true}
 use Rattle.std.proofs.Math.Nat.{mul_comm}
+use Rattle.std.proofs.Math.Seq.{drop-append_seam, take-append_seam}
 use Rattle.std.proofs.lemmas.Bool.{cond_both}
 use Rattle.std.specs.Fmt.{option_append}
 use Rattle.std.specs.Iterator.{AlwaysYields}
-use Rattle.std.specs.List.{repeat, before_first, slice_split}
+use Rattle.std.specs.List.{repeat, before_first, slice_range, slice_split}
 use Rattle.std.specs.Str.Iter.{split_steps}
 use Rattle.std.specs.declared.str.Split.{Split}
 use Rattle.std.specs.Str.Pattern.{FindsChar}
@@ -14,16 +15,39 @@ use Rattle.cases.specs.Spelling.{is_space, is_star, often, piece, times, token_b
 pub token_is : (token digits bytes : List ℕ) (n : ℕ) → digits ≡ before_first is_star token → often token ≡ Some n → piece digits ≡ Some bytes → token_bytes token ≡ Some (repeat n bytes)
 token_is token digits bytes n d o p = ap (λ ds. times (piece ds) (often token)) (sym d) ∙ ap (λ m. times (piece digits) m) o ∙ ap (λ bs. times bs (Some n)) p
 
-length_repeat : (n : ℕ) (xs : List ℕ) → length (repeat n xs) ≡ n * length xs
+pub length_repeat : (n : ℕ) (xs : List ℕ) → length (repeat n xs) ≡ n * length xs
 length_repeat zero xs = omega arith
 length_repeat (suc n) xs = omega (arith, length-append xs (repeat n xs), length_repeat n xs)
 
--- a length that passes what there is room for, or does not, in the words of the code
-pub over : (n l m room : ℕ) (xs : List ℕ) → l ≡ length xs → m ≡ min (l * n) (2 ^ 64 - 1) → room < m → room < length (repeat n xs)
-over n l m room xs e f h = let p = ap (λ k. k * n) e ∙ mul_comm (length xs) n in omega (arith, p, f, h, length_repeat n xs)
+-- the same length, in the words of the code
+pub long_is : (n l : ℕ) (xs : List ℕ) → l ≡ length xs → length (repeat n xs) ≡ l * n
+long_is n l xs e = length_repeat n xs ∙ mul_comm n (length xs) ∙ ap (λ k. k * n) (sym e)
 
-pub within : (n l m room v : ℕ) (xs : List ℕ) → l ≡ length xs → m ≡ min (l * n) (2 ^ 64 - 1) → m ≤ room → v ≡ n * length xs → v < 2 ^ 64 → v ≤ room
-within n l m room v xs e f h g b = let p = ap (λ k. k * n) e ∙ mul_comm (length xs) n in omega (arith, p, f, h, g, b)
+-- the bytes of more times are those of the first, and then those of the others
+repeat_add : (m n : ℕ) (xs : List ℕ) → repeat (m + n) xs ≡ repeat m xs ++ repeat n xs
+repeat_add zero n xs = let e : 0 + n ≡ n = omega arith in ap (λ k. repeat k xs) e
+repeat_add (suc m) n xs =
+    let e : suc m + n ≡ suc (m + n) = omega arith in
+    ap (λ k. repeat k xs) e ∙ ap (λ ys. xs ++ ys) (repeat_add m n xs) ∙ sym (append_assoc xs (repeat m xs) (repeat n xs))
+
+-- where a piece stands n times behind other bytes, its first m times can be copied to the end
+module _ (bytes front xs : List ℕ) (n m start : ℕ) (is : bytes ≡ front ++ repeat n xs) (less : m ≤ n) (at : start ≡ length front) where
+  as_parts : bytes ≡ front ++ (repeat m xs ++ repeat (n - m) xs)
+  as_parts = let sum : n ≡ m + (n - m) = omega (arith, less) in is ∙ ap (λ k. front ++ repeat k xs) sum ∙ ap (λ ys. front ++ ys) (repeat_add m (n - m) xs)
+
+  pub lies_within : start + m * length xs ≤ length bytes
+  lies_within = let p = ap length as_parts in omega (arith, p, at, length_repeat m xs, length-append front (repeat m xs ++ repeat (n - m) xs), length-append (repeat m xs) (repeat (n - m) xs))
+
+  part_is : slice_range bytes start (start + m * length xs) ≡ repeat m xs
+  part_is =
+      let width : start + m * length xs - start ≡ length (repeat m xs) = omega (arith, length_repeat m xs) in
+      ap (λ k. take k (drop start bytes)) width ∙ ap (λ k. take (length (repeat m xs)) (drop k bytes)) at
+      ∙ ap (λ ys. take (length (repeat m xs)) (drop (length front) ys)) as_parts
+      ∙ ap (take (length (repeat m xs))) (drop-append_seam front (repeat m xs ++ repeat (n - m) xs))
+      ∙ take-append_seam (repeat m xs) (repeat (n - m) xs)
+
+  pub more_is : (new : List ℕ) → new ≡ bytes ++ slice_range bytes start (start + m * length xs) → new ≡ front ++ repeat (n + m) xs
+  more_is new h = h ∙ ap (λ ys. bytes ++ ys) part_is ∙ ap (λ ys. ys ++ repeat m xs) is ∙ append_assoc front (repeat n xs) (repeat m xs) ∙ ap (λ ys. front ++ ys) (sym (repeat_add n m xs))
 
 -- a case that is not empty, with no space in front
 pub unspaced : (text : List ℕ) → 0 < length text → ((rest : List ℕ) → text ≢ 32 ∷ rest) → spelled text ≡ None

@@ -1,6 +1,7 @@
 //! How a case spells its bytes.
-ghost use Rattle.std.specs.Prelude.{◌≡◌, ◌≢◌, ◌<◌, ◌≤◌, length, Err, Some, None, IfOk, IfErr, IfSome, IfNone, vec_len};
-ghost use Rattle.std.specs.List.{before_first};
+ghost use Rattle.std.specs.Prelude.{◌≡◌, ◌≢◌, ◌+◌, ◌*◌, ◌++◌, ◌<◌, ◌≤◌, length, OnOk, Err, Some, None, IfOk, IfErr, IfSome, IfNone, vec_len};
+ghost use Rattle.std.specs.List.{before_first, list_all, repeat};
+ghost use Rattle.hex.specs.Hex.{is_hex_digit};
 ghost use Rattle.cases.specs.Spelling.{is_star, number, of_hex, often, piece, spelled, token_bytes};
 ghost use Rattle.cases.specs.declared.spelling.SpellError.TheVariants.{Malformed, TooLong, OutOfMemory};
 
@@ -54,24 +55,43 @@ pub fn bytes_of(heap: Global, text: &str) -> Result<Vec<u8>, SpellError>
         return Err(SpellError::Malformed);
     };
     for token in tokens.split(' ') {
-        let more = token_of(heap, token, MOST - bytes.len())?;
-        bytes.extend_from_slice(more.as_slice())?;
+        let (piece, times) = token_of(heap, token, MOST - bytes.len())?;
+        add_times(&mut bytes, piece.as_slice(), times)?;
     }
     Ok(bytes)
 }
 
-/// The bytes of a token, of which there may be so many.
-fn token_of(heap: Global, token: &str, room: usize) -> Result<Vec<u8>, SpellError>
-    ensures ok { IfOk result (λ v. (token_bytes token.now ≡ Some v.items) × (vec_len v ≤ room)) }
+/// The piece of a token, and how many times it stands there; these may be so many bytes in all.
+fn token_of(heap: Global, token: &str, room: usize) -> Result<(Vec<u8>, usize), SpellError>
+    ensures ok { IfOk result (λ p. let more = repeat p.1 p.0.items in (token_bytes token.now ≡ Some more) × (length more ≤ room)) }
     ensures malformed { result ≡ Err Malformed → token_bytes token.now ≡ None }
     ensures too_long { result ≡ Err TooLong → IfSome (token_bytes token.now) (λ more. room < length more) }
 {
     let (digits, times) = parts_of(token).ok_or(SpellError::Malformed)?;
     let piece = piece_of(heap, digits)?;
-    if piece.len().saturating_mul(times) > room {
-        return Err(SpellError::TooLong);
+    match piece.len().checked_mul(times) {
+        Some(more) if more <= room => Ok((piece, times)),
+        _ => Err(SpellError::TooLong),
     }
-    Ok(piece.repeat(heap, times)?)
+}
+
+/// Adds a piece so many times: once, and then what stands of it already, so that few copies make many bytes.
+fn add_times(bytes: &mut Vec<u8>, piece: &[u8], times: usize) -> Result<(), AllocError>
+    requires { vec_len bytes.old + times * length piece.now ≤ 1200000 }
+    ensures { OnOk result (bytes.new.items ≡ bytes.old.items ++ repeat times piece.now) }
+{
+    if times == 0 {
+        return Ok(());
+    }
+    let start = bytes.len();
+    bytes.extend_from_slice(piece)?;
+    let mut done = 1;
+    while done < times {
+        let more = done.min(times - done);
+        bytes.extend_from_within(start..start + more * piece.len())?;
+        done += more;
+    }
+    Ok(())
 }
 
 /// The digits of a token, and how many times its bytes stand there.
@@ -98,9 +118,24 @@ fn piece_of(heap: Global, digits: &str) -> Result<Vec<u8>, SpellError>
     ensures err { IfErr result (λ e. e ≢ TooLong) }
     ensures malformed { result ≡ Err Malformed → piece digits.now ≡ None }
 {
+    // Ahead of the decoding, which takes all its memory at once: a text of other characters gets none.
+    if !are_digits(digits.as_bytes()) {
+        return Err(SpellError::Malformed);
+    }
     let bytes = hex::decode(heap, digits)?;
     if bytes.is_empty() {
         return Err(SpellError::Malformed);
     }
     Ok(bytes)
+}
+
+/// Whether these are hexadecimal digits. It reads to the end in any case, which lets it look at many at once.
+fn are_digits(text: &[u8]) -> bool
+    ensures { result ≡ list_all is_hex_digit text.now }
+{
+    let mut good = true;
+    for byte in text {
+        good &= byte.is_ascii_hexdigit();
+    }
+    good
 }

@@ -29,3 +29,15 @@ fn tokens(rt: HostRuntime) -> Result<(), Fail> {
     assert!(rt; bytes.as_slice() == &spelled[0..9]);
     Ok(())
 }
+
+/// Pieces that stand once, and up to more times than three turns of doubling give.
+#[test]
+fn repeated_tokens(rt: HostRuntime) -> Result<(), Fail> {
+    let bytes = bytes_of(rt.alloc(), " 00 0102*1 03*2 0405*3 06*5 0708*8 09*9")?;
+    let spelled = [
+        0, 1, 2, 3, 3, 4, 5, 4, 5, 4, 5, 6, 6, 6, 6, 6, 7, 8, 7, 8, 7, 8, 7, 8, 7, 8, 7, 8, 7, 8,
+        7, 8, 9, 9, 9, 9, 9, 9, 9, 9, 9,
+    ];
+    assert!(rt; bytes.as_slice() == &spelled[0..41]);
+    Ok(())
+}
