@@ -8,7 +8,7 @@ use sheet::OpenedSheet;
 use tables::tables::Tables;
 
 /// A sheet that passed, with its counting. It moves, and holds nothing but what the rules accept: it is filled by judging,
-/// or sealed of an opened sheet for which that is shown.
+/// or made by `seal` from an opened sheet for which that is shown.
 #[derive(Drop)]
 pub struct PassedSheet<C: Counting> {
     sheet: OpenedSheet<C>,
