@@ -12,7 +12,11 @@ pub fn joined_for<C: Counting, T: Exact>(counting: &C, shares: &[Share<T>], labe
 {
     let mut sum = 0;
     for share in shares {
-        sum = counting.join_or_zero(sum, share.given_to(label));
+        let given = share.given_to(label);
+        // Most shares give a label nothing, and nothing need not be joined.
+        if given != 0 {
+            sum = counting.join_or_zero(sum, given);
+        }
     }
     sum
 }
