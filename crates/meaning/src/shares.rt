@@ -13,7 +13,7 @@ pub fn joined_for<C: Counting, T: Exact>(counting: &C, shares: &[Share<T>], labe
     let mut sum = 0;
     for share in shares {
         let given = share.given_to(label);
-        // Most shares give a label nothing, and nothing need not be joined.
+        // Most shares give a label nothing, and joining nothing changes nothing.
         if given != 0 {
             sum = counting.join_or_zero(sum, given);
         }
